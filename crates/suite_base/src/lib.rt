@@ -1,0 +1,17 @@
+//! What every crate of the suite stands on: lists and texts that keep their allocator, places in a
+//! text, and the one type of refusals.
+#![tactic(auto)]
+
+mod lists;
+mod memory;
+mod places;
+mod refusals;
+mod texts;
+mod word_lists;
+
+pub use lists::List;
+pub use memory::NoMemory;
+pub use places::Place;
+pub use refusals::{Fail, Refusal, Where, Which};
+pub use texts::Text;
+pub use word_lists::WordList;

@@ -1,0 +1,6 @@
+/// A place in a text: its line and its column, both counted from 1. Columns count bytes.
+#[derive(Clone, Copy, Debug, PartialEq, Eq)]
+pub struct Place {
+    pub line: u32,
+    pub column: u32,
+}
