@@ -2,6 +2,7 @@
 //! text, and the one type of refusals.
 #![tactic(auto)]
 
+mod file_reading;
 mod held_files;
 mod line_cursors;
 mod lists;
@@ -16,6 +17,7 @@ mod texts;
 mod word_lists;
 mod writing;
 
+pub use file_reading::read_file;
 pub use line_cursors::{Lines, is_blank_byte, trimmed, trimmed_front};
 pub use lists::List;
 pub use memory::NoMemory;
