@@ -1,5 +1,5 @@
 -- The value of a row is linear in the row; entries and limits, column by column.
-use Rattle.std.specs.Prelude.{ℤ, pos, ◌+ℤ◌, ◌*ℤ◌, ℕ, zero, suc, ◌^◌, ◌≤◌, ◌<◌, List, [], ◌∷◌, ◌++◌, length, ◌-◌, unsigned_abs, swap, ◌≡◌, refl}
+use Rattle.std.specs.Prelude.{ℤ, pos, ◌+ℤ◌, ◌*ℤ◌, ℕ, zero, suc, ◌^◌, ◌≤◌, ◌<◌, List, [], ◌∷◌, ◌++◌, length, ◌-◌, unsigned_abs, insert, swap, ◌≡◌, refl}
 use Rattle.std.proofs.Common.{ap, inl, inr, subst, ◌∙◌, arith}
 use Rattle.std.proofs.lemmas.Int.{ints}
 use Rattle.std.proofs.Math.ListN.{set}
@@ -44,6 +44,19 @@ bound_more (y ∷ row) x f h (suc k) = bound_more row x (λ j. f (suc j)) h k
 -- appending a coefficient keeps all entries in range
 pub coefficients_more : (row : List ℤ) (x : ℤ) → AreCoefficients row → unsigned_abs x < 2 ^ 127 → AreCoefficients (row ++ x ∷ [])
 coefficients_more row x r h = record { bound = bound_more row x r.bound h }
+
+bound_insert : (row : List ℤ) (i : ℕ) (x : ℤ) → ((k : ℕ) → unsigned_abs (entry row k) < 2 ^ 127) → unsigned_abs x < 2 ^ 127
+    → (k : ℕ) → unsigned_abs (entry (insert row i x) k) < 2 ^ 127
+bound_insert row zero x f h zero = h
+bound_insert row zero x f h (suc k) = f k
+bound_insert [] (suc i) x f h zero = h
+bound_insert [] (suc i) x f h (suc k) = f k
+bound_insert (y ∷ row) (suc i) x f h zero = f zero
+bound_insert (y ∷ row) (suc i) x f h (suc k) = bound_insert row i x (λ j. f (suc j)) h k
+
+-- so does inserting one
+pub coefficients_insert : (row : List ℤ) (i : ℕ) (x : ℤ) → AreCoefficients row → unsigned_abs x < 2 ^ 127 → AreCoefficients (insert row i x)
+coefficients_insert row i x r h = record { bound = bound_insert row i x r.bound h }
 
 bound_set : (row : List ℤ) (i : ℕ) (x : ℤ) → ((k : ℕ) → unsigned_abs (entry row k) < 2 ^ 127) → unsigned_abs x < 2 ^ 127
     → (k : ℕ) → unsigned_abs (entry (set row i x) k) < 2 ^ 127
