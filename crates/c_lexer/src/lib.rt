@@ -2,5 +2,7 @@
 #![tactic(auto)]
 
 mod pragmas;
+mod regions;
 
 pub use pragmas::{Pragma, pragma_of};
+pub use regions::{RegionFail, Span, find_region};

@@ -17,13 +17,25 @@ pub enum Pragma {
 pub fn pragma_of(line: &[u8]) -> Option<Pragma>
     ensures { result ≡ spec.pragma_in line.now }
 {
-    let rest = pragma_rest(line)?;
-    if says(b"scop", rest) {
+    if is_pragma(line, Pragma::Scop) {
         Some(Pragma::Scop)
-    } else if says(b"endscop", rest) {
+    } else if is_pragma(line, Pragma::Endscop) {
         Some(Pragma::Endscop)
     } else {
         None
+    }
+}
+
+/// Whether `line` is this pragma.
+pub fn is_pragma(line: &[u8], wanted: Pragma) -> bool
+    ensures { result ≡ spec.is_pragma wanted line.now }
+{
+    let Some(rest) = pragma_rest(line) else {
+        return false;
+    };
+    match wanted {
+        Pragma::Scop => says(b"scop", rest),
+        Pragma::Endscop => says(b"endscop", rest),
     }
 }
 
