@@ -6,8 +6,10 @@ mod accesses;
 mod affines;
 mod origins;
 mod raw_pieces;
+mod row_builders;
 mod schedules;
 mod scops;
+mod solved_parts;
 mod statements;
 
 pub use accesses::{Access, AccessKind};
