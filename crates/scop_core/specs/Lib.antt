@@ -1,0 +1,2 @@
+pub mod ScopData
+pub mod SolvedRows
