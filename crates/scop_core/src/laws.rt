@@ -1,0 +1,4 @@
+//! The laws of runs.
+
+/// Nothing yet.
+pub fn placeholder() {}
