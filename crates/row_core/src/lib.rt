@@ -1,0 +1,8 @@
+//! Coefficients that fit 127 bits and a sign, and rows of them with checked arithmetic.
+#![tactic(auto)]
+
+mod coeffs;
+mod dense_rows;
+
+pub use coeffs::Coeff;
+pub use dense_rows::DenseRow;
