@@ -1,3 +1,6 @@
 pub mod Orders
 pub mod Reordering
 pub mod Memories
+pub mod Floors
+pub mod Stamps
+pub mod RunLaws

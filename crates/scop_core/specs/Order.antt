@@ -6,3 +6,9 @@ abbrev pub Before : List ℤ → List ℤ → Type 0
 Before [] q = ⊥
 Before (x ∷ p) [] = ⊥
 Before (x ∷ p) (y ∷ q) = (x <ℤ y) ⊎ ((x ≡ y) × Before p q)
+
+-- p is the beginning of q, or all of it
+abbrev pub IsPrefix : List ℤ → List ℤ → Type 0
+IsPrefix [] q = Unit {0}
+IsPrefix (x ∷ p) [] = ⊥
+IsPrefix (x ∷ p) (y ∷ q) = (x ≡ y) × IsPrefix p q

@@ -1,7 +1,0 @@
-//! SCoPs and the laws of their runs.
-#![tactic(auto)]
-
-mod accesses;
-pub mod laws;
-
-pub use accesses::AccessKind;
