@@ -26,6 +26,12 @@ impl Model for Coeff {
 }
 
 impl Coeff {
+    /// The coefficient 0.
+    pub const ZERO: Coeff = Coeff { value: 0 };
+
+    /// The coefficient 1.
+    pub const ONE: Coeff = Coeff { value: 1 };
+
     /// The coefficient `n`; `None` exactly for `-2^127`.
     pub fn new(n: i128) -> Option<Coeff>
         ensures answer { MatchOption result (n ≡ neg_ℤ (pos (2 ^ 127))) (λ c. c ≡ n) }
@@ -36,6 +42,21 @@ impl Coeff {
         } else {
             Some(Coeff { value: n })
         }
+    }
+
+    /// The coefficient `n`, whose absolute value is known to be below 2^127.
+    pub fn bounded(n: i128) -> Coeff
+        requires { unsigned_abs n < 2 ^ 127 }
+        ensures { result ≡ n }
+    {
+        Coeff { value: n }
+    }
+
+    /// The negative of the coefficient, which is a coefficient too.
+    pub fn negated(self) -> Coeff
+        ensures { result ≡ neg_ℤ self }
+    {
+        Coeff { value: -self.value }
     }
 
     /// The integer that the coefficient holds.

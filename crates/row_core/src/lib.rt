@@ -3,6 +3,8 @@
 
 mod coeffs;
 mod dense_rows;
+mod sums;
 
 pub use coeffs::Coeff;
 pub use dense_rows::DenseRow;
+pub use sums::Sum;

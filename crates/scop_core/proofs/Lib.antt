@@ -4,3 +4,4 @@ pub mod Memories
 pub mod Floors
 pub mod Stamps
 pub mod RunLaws
+mod Checks

@@ -2,6 +2,7 @@
 //! text, and the one type of refusals.
 #![tactic(auto)]
 
+mod line_cursors;
 mod lists;
 mod memory;
 mod places;
@@ -9,6 +10,7 @@ mod refusals;
 mod texts;
 mod word_lists;
 
+pub use line_cursors::{Lines, is_blank_byte, trimmed, trimmed_front};
 pub use lists::List;
 pub use memory::NoMemory;
 pub use places::Place;

@@ -1,0 +1,6 @@
+pub mod ScopData
+pub mod Order
+pub mod Sequences
+pub mod Memory
+pub mod Meaning
+pub mod Theorems
