@@ -1,5 +1,5 @@
 -- Definitions on concrete data.
-use Rattle.std.proofs.Common.{◌≡◌, refl, inl, inr, List, [], ◌∷◌, ℤ, pos, negsuc}
+use Rattle.std.proofs.Common.{◌≡◌, refl, pos, negsuc}
 use Rattle.scop_core.specs.Meaning.{floor_of}
 
 floor_below_zero : floor_of (negsuc 4) (pos 4) ≡ negsuc 1

@@ -7,8 +7,7 @@ use Rattle.std.proofs.lemmas.Bool.Decides.{Decides-int_eq}
 use mathlib.Core.Path.{fun_ext}
 use Rattle.scop_core.specs.Sequences.{In}
 use Rattle.scop_core.specs.declared.accesses.AccessKind.{AccessKind}
-use Rattle.scop_core.specs.declared.accesses.AccessKind.TheVariants.{Read, Write, MayWrite}
-use Rattle.scop_core.specs.Memory.{Cell, Term, Initial, App, Terms, NoTerms, More, Memory, same_cell, stored, terms_at, store_each, Use, Event, is_writing, read_here, maybe_written, cells_of, taken, computed, step_of, EventsTouch}
+use Rattle.scop_core.specs.Memory.{Cell, Term, More, Memory, same_cell, stored, terms_at, store_each, Use, Event, is_writing, read_here, maybe_written, cells_of, taken, computed, step_of, EventsTouch}
 
 pub bool_tells : (b : Bool) → (b ≡ true) ⊎ (b ≡ false)
 bool_tells true = inl refl
@@ -96,9 +95,11 @@ use_at chosen (u ∷ us) c i = by (chosen u.kind) refl (use_at chosen us c)
   where
     later : UseAt chosen us c → UseAt chosen (u ∷ us) c
     later a = record { at = a.at; among = inr a.among; cell_is = a.cell_is; kind_is = a.kind_is }
+
     here : chosen u.kind ≡ true → (In c (cells_of chosen us) → UseAt chosen us c) → In c (u.cell ∷ cells_of chosen us) → UseAt chosen (u ∷ us) c
     here h rest (inl e) = record { at = u; among = inl refl; cell_is = e; kind_is = h }
     here h rest (inr j) = later (rest j)
+
     by : (b : Bool) → chosen u.kind ≡ b → (In c (cells_of chosen us) → UseAt chosen us c) → UseAt chosen (u ∷ us) c
     by true h rest = here h rest (subst (λ b. In c (cond b (u.cell ∷ cells_of chosen us) (cells_of chosen us))) h i)
     by false h rest = later (rest (subst (λ b. In c (cond b (u.cell ∷ cells_of chosen us) (cells_of chosen us))) h i))
@@ -116,8 +117,9 @@ in_either a (x ∷ xs) ys (inr i) = elim (in_either a xs ys i) as (λ _. In a (x
 
 used_at : (e : Event) (c : Cell) → In c (cells_of read_here e.uses ++ cells_of maybe_written e.uses) → UsedAt e.uses c
 used_at e c i = elim (in_either c (cells_of read_here e.uses) (cells_of maybe_written e.uses) i) as (λ _. UsedAt e.uses c) [
-    inl j ↦ (let a = use_at read_here e.uses c j in record { at = a.at; among = a.among; cell_is = a.cell_is })
-  | inr j ↦ (let a = use_at maybe_written e.uses c j in record { at = a.at; among = a.among; cell_is = a.cell_is }) ]
+  | inl j ↦ (let a = use_at read_here e.uses c j in record { at = a.at; among = a.among; cell_is = a.cell_is })
+  | inr j ↦ (let a = use_at maybe_written e.uses c j in record { at = a.at; among = a.among; cell_is = a.cell_is })
+]
 
 -- a cell that one event writes is none that the other writes or takes
 writes_apart : (a b : Event) → ¬ EventsTouch a b → (c d : Cell) → In c (cells_of is_writing a.uses) → In d (cells_of is_writing b.uses) → ¬ (c ≡ d)

@@ -1,6 +1,6 @@
 -- Before is a strict order; a rising list is determined by its members.
-use Rattle.std.proofs.Common.{◌≡◌, ◌⊎◌, inl, inr, List, [], ◌∷◌, ℤ, ◌<ℤ◌, refl, sym, ◌∙◌, ap, subst, arith, ⊎_elim}
-use Rattle.std.proofs.lemmas.Int.{ints, by_lt_z}
+use Rattle.std.proofs.Common.{◌≡◌, ◌⊎◌, inl, inr, List, [], ◌∷◌, ℤ, refl, sym, ◌∙◌, ap, subst, arith}
+use Rattle.std.proofs.lemmas.Int.{ints}
 use Rattle.scop_core.specs.Order.{Before}
 use Rattle.scop_core.specs.Sequences.{In, Precedes, Distinct, Rising, RunOf}
 
@@ -45,9 +45,10 @@ two_members (x ∷ xs) a b (inl e) (inl f) = inl (sym e ∙ f)
 two_members (x ∷ xs) a b (inl e) (inr j) = inr (inl (inl (e, j)))
 two_members (x ∷ xs) a b (inr i) (inl f) = inr (inr (inl (f, i)))
 two_members (x ∷ xs) a b (inr i) (inr j) = elim (two_members xs a b i j) as (λ _. (a ≡ b) ⊎ (Precedes (x ∷ xs) a b ⊎ Precedes (x ∷ xs) b a)) [
-    inl e ↦ inl e
+  | inl e ↦ inl e
   | inr (inl p) ↦ inr (inl (inr p))
-  | inr (inr p) ↦ inr (inr (inr p)) ]
+  | inr (inr p) ↦ inr (inr (inr p))
+]
 
 -- what stands in both lists, behind a first member that is one and that does not come again
 member_of_rest : {X : Type 0} (x y a : X) (xs ys : List X) → x ≡ y → ¬ In x xs → In a xs → In a (y ∷ ys) → In a ys
@@ -70,8 +71,8 @@ same_list stamp (x ∷ xs) (y ∷ ys) r s f g =
     let once = (rising_is_distinct stamp (x ∷ xs) r).0 in
     let once' = (rising_is_distinct stamp (y ∷ ys) s).0 in
     let rest : xs ≡ ys = same_list stamp xs ys (rest_is_rising stamp x xs r) (rest_is_rising stamp y ys s)
-        (λ a i. member_of_rest x y a xs ys e once i (f a (inr i)))
-        (λ a i. member_of_rest y x a ys xs (sym e) once' i (g a (inr i))) in
+    (λ a i. member_of_rest x y a xs ys e once i (f a (inr i)))
+    (λ a i. member_of_rest y x a ys xs (sym e) once' i (g a (inr i))) in
     ap (λ w. w ∷ xs) e ∙ ap (λ ws. y ∷ ws) rest
 
 -- a run is unique

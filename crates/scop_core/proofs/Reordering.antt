@@ -1,6 +1,6 @@
 -- Steps that don't touch change places: two lists in the same order fold to one state.
-use Rattle.std.proofs.Common.{◌≡◌, ◌⊎◌, inl, inr, List, [], ◌∷◌, ◌++◌, refl, sym, ◌∙◌, ap, subst}
-use Rattle.scop_core.specs.Sequences.{In, Precedes, Distinct, SameOrder, fold_steps}
+use Rattle.std.proofs.Common.{◌≡◌, inl, inr, List, [], ◌∷◌, ◌++◌, refl, sym, ◌∙◌, ap, subst}
+use Rattle.scop_core.specs.Sequences.{In, Precedes, Distinct, fold_steps}
 
 -- a list that holds x, cut there
 record Cut (X : Type 0) (x : X) (L : List X) : Type 0 where
@@ -100,9 +100,9 @@ reordered {X = X} Touch step commute (x ∷ xs) M dl dm into back order s =
     let order' : (a b : X) → Touch a b → Precedes (c.front ++ x ∷ c.behind) a b → Precedes (x ∷ xs) a b = λ a b t p. order a b t (subst (λ w. Precedes w a b) (sym c.whole) p) in
     let free : (a : X) → In a c.front → ¬ Touch a x = λ a i t. nothing_before x xs dl.0 a (order' a x t (front_precedes a x c.front c.behind i)) in
     let rest : fold_steps step xs (step x s) ≡ fold_steps step (c.front ++ c.behind) (step x s) =
-        reordered Touch step commute xs (c.front ++ c.behind) dl.1 (distinct_narrower x c.front c.behind d)
-          (λ a i. in_narrower a x c.front c.behind (gone' a i) (subst (λ w. In a w) c.whole (into a (inr i))))
-          (λ a i. in_rest a x xs (gone a i) (back a (subst (λ w. In a w) (sym c.whole) (in_wider a x c.front c.behind i))))
-          (λ a b t p. still_in_order a b x xs (gone a (precedes_begins_in (c.front ++ c.behind) a b p)) (order' a b t (precedes_in_wider a b x c.front c.behind p)))
-          (step x s) in
+    reordered Touch step commute xs (c.front ++ c.behind) dl.1 (distinct_narrower x c.front c.behind d)
+    (λ a i. in_narrower a x c.front c.behind (gone' a i) (subst (λ w. In a w) c.whole (into a (inr i))))
+    (λ a i. in_rest a x xs (gone a i) (back a (subst (λ w. In a w) (sym c.whole) (in_wider a x c.front c.behind i))))
+    (λ a b t p. still_in_order a b x xs (gone a (precedes_begins_in (c.front ++ c.behind) a b p)) (order' a b t (precedes_in_wider a b x c.front c.behind p)))
+    (step x s) in
     rest ∙ sym (moved Touch step commute x c.front c.behind free s) ∙ ap (λ w. fold_steps step w s) (sym c.whole)

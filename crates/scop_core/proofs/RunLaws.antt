@@ -1,7 +1,6 @@
 -- The laws of runs, from the lemmas on sequences and events.
-use Rattle.std.proofs.Common.{◌≡◌, ap}
-use Rattle.scop_core.specs.Memory.{Memory}
-use Rattle.scop_core.specs.Meaning.{Instance, IsInstance, event, stamp, step, Touch}
+use Rattle.std.proofs.Common.{ap}
+use Rattle.scop_core.specs.Meaning.{IsInstance, event, stamp, step, Touch}
 use Rattle.scop_core.specs.Theorems.{RunIsUnique, StepsCommute, ReorderingKeepsMemory}
 use Rattle.scop_core.proofs.Orders.{one_run}
 use Rattle.scop_core.proofs.Memories.{steps_commute}

@@ -1,15 +1,14 @@
 -- Stamps of valid schedules are ordered.
-use Rattle.std.proofs.Common.{◌≡◌, ◌≢◌, ◌⊎◌, inl, inr, ℕ, ◌+◌, List, [], ◌∷◌, map, length, ℤ, ◌<ℤ◌, ◌≤ℤ◌, refl, sym, ◌∙◌, ap, subst, arith, Option, Some, None, Bool, true, false, ◌==◌}
+use Rattle.std.proofs.Common.{◌≡◌, ◌≢◌, ◌⊎◌, inl, inr, ℕ, ◌+◌, List, [], ◌∷◌, length, ℤ, refl, sym, ◌∙◌, ap, subst, arith, Option, Some, None, Bool, true, false, ◌==◌}
 use Rattle.std.proofs.lemmas.Bool.Decides.{Decides-eqb, not_from_Decides}
 use Rattle.std.specs.Prelude.{IsSomeAnd}
 use Rattle.std.proofs.lemmas.List.{length-map}
 use Rattle.std.proofs.lemmas.Int.{ints, by_lt_z}
-use Rattle.scop_core.specs.declared.affines.Affine.{Affine}
 use Rattle.scop_core.specs.declared.schedules.Schedule.{Schedule}
 use Rattle.scop_core.specs.declared.statements.Statement.{Statement}
 use Rattle.scop_core.specs.ScopData.{ScopData}
 use Rattle.scop_core.specs.Order.{Before, IsPrefix}
-use Rattle.scop_core.specs.Meaning.{Instance, statement_at, InDomain, IsInstance, affine_at, floors_after, levels_at, interleaved, stamp_of, stamp_in, stamp}
+use Rattle.scop_core.specs.Meaning.{Instance, statement_at, InDomain, IsInstance, floors_after, levels_at, interleaved, stamp_in, stamp}
 use Rattle.scop_core.specs.Theorems.{IsStatement, HasValidSchedules, StampsAreOrdered, StatementsAreOrdered}
 
 -- two lists differ at a place that both have, or one is a beginning of the other
@@ -89,9 +88,9 @@ no_prefix S v n a b f g d h =
     let s = f.statement in
     let t = g.statement in
     let p : IsPrefix (interleaved s.schedule.betas (levels_of s.schedule a.values n)) (interleaved t.schedule.betas (levels_of t.schedule b.values n)) =
-        subst (λ w. IsPrefix (interleaved s.schedule.betas (levels_of s.schedule a.values n)) w) (stamp_is S n b t g.is) (subst (λ w. IsPrefix w (stamp S n b)) (stamp_is S n a s f.is) h) in
+    subst (λ w. IsPrefix (interleaved s.schedule.betas (levels_of s.schedule a.values n)) w) (stamp_is S n b t g.is) (subst (λ w. IsPrefix w (stamp S n b)) (stamp_is S n a s f.is) h) in
     v.apart a.statement b.statement s t f.is g.is d
-      (betas_of_prefix s.schedule.betas (levels_of s.schedule a.values n) t.schedule.betas (levels_of t.schedule b.values n) (one_beta_more S v a.statement s f.is a.values n) p)
+    (betas_of_prefix s.schedule.betas (levels_of s.schedule a.values n) t.schedule.betas (levels_of t.schedule b.values n) (one_beta_more S v a.statement s f.is a.values n) p)
 
 pub statements_ordered : StatementsAreOrdered
 statements_ordered S v n a b ia ib d = by (compared (stamp S n a) (stamp S n b))
@@ -124,11 +123,13 @@ stamps_ordered S v n a b ia ib = by (same_statement a.statement b.statement)
     split : Before (stamp S n a) (stamp S n b) ⊎ Before (stamp S n b) (stamp S n a) → Before (stamp S n a) (stamp S n b) ⊎ (Before (stamp S n b) (stamp S n a) ⊎ (stamp S n a ≡ stamp S n b))
     split (inl h) = inl h
     split (inr h) = inr (inl h)
+
     long : length (stamp S n a) ≡ length (stamp S n b) → Compared (stamp S n a) (stamp S n b) → Before (stamp S n a) (stamp S n b) ⊎ (Before (stamp S n b) (stamp S n a) ⊎ (stamp S n a ≡ stamp S n b))
     long e (Less h) = inl h
     long e (More h) = inr (inl h)
     long e (Left h) = inr (inr (whole_prefix (stamp S n a) (stamp S n b) e h))
     long e (Right h) = inr (inr (sym (whole_prefix (stamp S n b) (stamp S n a) (sym e) h)))
+
     by : (a.statement ≡ b.statement) ⊎ (a.statement ≢ b.statement) → Before (stamp S n a) (stamp S n b) ⊎ (Before (stamp S n b) (stamp S n a) ⊎ (stamp S n a ≡ stamp S n b))
     by (inl e) = long (one_length S n a b (found S n a ia) e) (compared (stamp S n a) (stamp S n b))
     by (inr d) = split (statements_ordered S v n a b ia ib d)

@@ -1,6 +1,6 @@
 -- What a SCoP means at parameter values n: its instances, their stamps and steps, its runs and its final memory.
 -- Statements are numbered from 1.
-use Rattle.std.specs.Prelude.{◌≡◌, ℕ, zero, suc, ◌+◌, List, [], ◌∷◌, ◌++◌, map, length, ℤ, ◌+ℤ◌, Option, Some, None, IsSomeAnd, slice_get}
+use Rattle.std.specs.Prelude.{◌≡◌, ℕ, zero, suc, List, [], ◌∷◌, ◌++◌, map, length, ℤ, ◌+ℤ◌, Option, Some, None, IsSomeAnd, slice_get}
 use Rattle.std.specs.Int.{int_div_euclid}
 use Rattle.row_core.specs.Rows.{dot}
 use Rattle.relation_core.specs.Points.{LiesInSome}

@@ -16,6 +16,7 @@ mutual
   pub data Term : Type 0 where
     Initial : (cell : Cell) → Term
     App : (text : List ℕ) → (names : List (List ℕ)) → (write : ℕ) → (values : List ℤ) → (parameters : List ℤ) → (read : Terms) → Term
+
   pub data Terms : Type 0 where
     NoTerms : Terms
     More : (first : Term) → (rest : Terms) → Terms

@@ -1,5 +1,5 @@
 -- The laws of runs, for every SCoP.
-use Rattle.std.specs.Prelude.{◌≡◌, ◌≢◌, ◌⊎◌, ℕ, ◌+◌, List, length, ℤ, pos, ◌*ℤ◌, ◌≤ℤ◌, Option, Some}
+use Rattle.std.specs.Prelude.{◌≡◌, ◌≢◌, ◌⊎◌, ℕ, ◌+◌, List, length, ℤ, pos, ◌*ℤ◌, ◌≤ℤ◌, Some}
 use Rattle.scop_core.specs.declared.statements.Statement.{Statement}
 use Rattle.scop_core.specs.ScopData.{ScopData}
 use Rattle.scop_core.specs.Order.{Before, IsPrefix}
