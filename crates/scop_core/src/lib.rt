@@ -1,9 +1,10 @@
 //! SCoPs as data: statements with domains, schedules and accesses in solved form, and the pieces that
-//! they are assembled from.
+//! they are assembled from; and the laws of their runs.
 #![tactic(auto)]
 
 mod accesses;
 mod affines;
+pub mod laws;
 mod origins;
 mod raw_pieces;
 mod row_builders;
