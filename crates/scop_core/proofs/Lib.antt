@@ -1,3 +1,4 @@
+pub mod RowLists
 pub mod Orders
 pub mod Reordering
 pub mod Memories

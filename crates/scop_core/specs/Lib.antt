@@ -1,4 +1,5 @@
 pub mod ScopData
+pub mod SolvedRows
 pub mod Order
 pub mod Sequences
 pub mod Memory

@@ -7,8 +7,10 @@ mod affines;
 pub mod laws;
 mod origins;
 mod raw_pieces;
+mod row_builders;
 mod schedules;
 mod scops;
+mod solved_parts;
 mod statements;
 
 pub use accesses::{Access, AccessKind};
