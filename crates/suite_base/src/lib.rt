@@ -26,7 +26,7 @@ pub use line_cursors::{Lines, is_blank_byte, trimmed, trimmed_front};
 pub use lists::List;
 pub use memory::NoMemory;
 pub use memory_fakes::{MemFiles, MemSink, MemSource};
-pub use numbers::{NumberRead, is_digit_byte, read_number};
+pub use numbers::{NumberRead, are_all_digits, is_digit_byte, read_number};
 pub use outside::{Failed, Files, Sink, Source};
 pub use places::Place;
 pub use reading::{MAX_INPUT, ReadFail, read_all};
