@@ -5,7 +5,7 @@ use Rattle.std.specs.Ordering.{int_eq}
 use Rattle.scop_core.specs.Sequences.{fold_steps}
 use Rattle.scop_core.specs.Memory.{Cell, App, Memory, initial, stored, terms_at}
 use Rattle.scop_core.specs.Meaning.{floor_of}
-use Rattle.clan_extract.specs.Regions.{Expression, Number, Name, Sum, Difference, Product, Negation, Greatest, Least, Ceiling, Floor, Remainder, Comparison, IsLess, IsLessOrEqual, IsGreater, IsGreaterOrEqual, IsEqual, IsUnequal, Condition, Compare, Both, Either, Opposite, Reference, Assignment, Node, For, If, Assign, Nodes, NoNodes, Then, parameters_of, arrays_of, array_references, number_in}
+use Rattle.clan_extract.specs.Regions.{Expression, Number, Name, Sum, Difference, Product, Negation, Maximum, Minimum, Ceiling, Floor, Remainder, Comparison, IsLess, IsLessOrEqual, IsGreater, IsGreaterOrEqual, IsEqual, IsUnequal, Condition, Compare, Both, Either, Opposite, Reference, Assignment, Node, For, If, Assign, Nodes, NoNodes, Then, parameters_of, arrays_of, array_references, number_in}
 
 -- a loop that is running: its name and the value that it has now
 pub record Binding : Type 0 where
@@ -40,8 +40,8 @@ value_of setting loops (Sum left right) = value_of setting loops left +ℤ value
 value_of setting loops (Difference left right) = value_of setting loops left -ℤ value_of setting loops right
 value_of setting loops (Product left right) = value_of setting loops left *ℤ value_of setting loops right
 value_of setting loops (Negation of) = neg_ℤ (value_of setting loops of)
-value_of setting loops (Greatest left right) = int_max (value_of setting loops left) (value_of setting loops right)
-value_of setting loops (Least left right) = int_min (value_of setting loops left) (value_of setting loops right)
+value_of setting loops (Maximum left right) = int_max (value_of setting loops left) (value_of setting loops right)
+value_of setting loops (Minimum left right) = int_min (value_of setting loops left) (value_of setting loops right)
 value_of setting loops (Ceiling of divisor) = neg_ℤ (floor_of (neg_ℤ (value_of setting loops of)) (pos divisor))
 value_of setting loops (Floor of divisor) = floor_of (value_of setting loops of) (pos divisor)
 value_of setting loops (Remainder of divisor) = int_rem (value_of setting loops of) (pos divisor)

@@ -9,8 +9,8 @@ pub data Expression : Type 0 where
   Difference : (left : Expression) → (right : Expression) → Expression
   Product : (left : Expression) → (right : Expression) → Expression
   Negation : (of : Expression) → Expression
-  Greatest : (left : Expression) → (right : Expression) → Expression
-  Least : (left : Expression) → (right : Expression) → Expression
+  Maximum : (left : Expression) → (right : Expression) → Expression
+  Minimum : (left : Expression) → (right : Expression) → Expression
   Ceiling : (of : Expression) → (divisor : ℕ) → Expression
   Floor : (of : Expression) → (divisor : ℕ) → Expression
   Remainder : (of : Expression) → (divisor : ℕ) → Expression
@@ -79,8 +79,8 @@ names_in (Sum left right) = names_in left ++ names_in right
 names_in (Difference left right) = names_in left ++ names_in right
 names_in (Product left right) = names_in left ++ names_in right
 names_in (Negation of) = names_in of
-names_in (Greatest left right) = names_in left ++ names_in right
-names_in (Least left right) = names_in left ++ names_in right
+names_in (Maximum left right) = names_in left ++ names_in right
+names_in (Minimum left right) = names_in left ++ names_in right
 names_in (Ceiling of divisor) = names_in of
 names_in (Floor of divisor) = names_in of
 names_in (Remainder of divisor) = names_in of
@@ -149,3 +149,8 @@ arrays_of region = first_occurrences (array_names_of_all (parameters_of region) 
 abbrev pub number_in : List (List ℕ) → List ℕ → ℤ
 number_in [] name = pos 0
 number_in (x ∷ xs) name = cond (bytes_eq x name) (pos 1) (pos 1 +ℤ number_in xs name)
+
+-- names with numbers, counted on from k
+abbrev pub numbered : ℤ → List (List ℕ) → List (ℤ × List ℕ)
+numbered k [] = []
+numbered k (x ∷ xs) = (k, x) ∷ numbered (k +ℤ pos 1) xs

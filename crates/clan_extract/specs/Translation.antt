@@ -8,7 +8,7 @@ use Rattle.scop_core.specs.declared.statements.Statement.{Statement}
 use Rattle.scop_core.specs.ScopData.{ScopData}
 use Rattle.scop_core.specs.Memory.{Agree}
 use Rattle.scop_core.specs.Meaning.{Instance, Run, final}
-use Rattle.clan_extract.specs.Regions.{Number, Name, IsLess, For, Assign, Nodes, NoNodes, Then, parameters_of}
+use Rattle.clan_extract.specs.Regions.{Number, Name, IsLess, For, Assign, Nodes, NoNodes, Then, parameters_of, arrays_of, numbered}
 use Rattle.clan_extract.specs.Execution.{memory_after_region}
 
 -- S has a run at n whose final memory is the memory after the region
@@ -75,3 +75,11 @@ one_loop_scop l = record {
 -- the one loop's SCoP means what the loop means, for every start, names and text
 abbrev pub OneLoopMeansItsRegion : Type 0
 OneLoopMeansItsRegion = (l : OneLoop) → Means (one_loop_scop l) (one_loop_region l)
+
+-- its parameter is the region's, and its list of arrays numbers the region's arrays by their first occurrence
+pub record HasNamesOf (S : ScopData) (region : Nodes) : Type 0 where
+  pub parameters : S.parameters ≡ Some (parameters_of region)
+  pub arrays : S.arrays ≡ Some (numbered (pos 1) (arrays_of region))
+
+abbrev pub OneLoopHasItsNames : Type 0
+OneLoopHasItsNames = (l : OneLoop) → HasNamesOf (one_loop_scop l) (one_loop_region l)
