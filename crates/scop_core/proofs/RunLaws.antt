@@ -17,7 +17,7 @@ commute S n a b apart m c = ap (λ k. k c) (steps_commute (event S n a) (event S
 
 pub reordering : ReorderingKeepsMemory
 reordering S n L M same m c =
-    ap (λ k. k c) (reordered (Touch S n) (step S n) (λ a b apart k. steps_commute (event S n a) (event S n b) apart k) L M same.once_left same.once_right same.into same.back same.here m)
+    ap (λ k. k c) (reordered (Touch S n) (step S n) (λ a b apart k. steps_commute (event S n a) (event S n b) apart k) L M same.once_left same.once_right same.into same.back same.kept_back m)
 
 pub no_ties : RunHasNoTies
 no_ties S n L r a b ia ib e = by (two_members L a b (r.all a ia) (r.all b ib))

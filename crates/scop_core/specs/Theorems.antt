@@ -20,10 +20,11 @@ pub record HasValidSchedules (statements : List Statement) : Type 0 where
 abbrev pub FloorIsGreatest : Type 0
 FloorIsGreatest = (e s : ℤ) → pos 1 ≤ℤ s → ((s *ℤ floor_of e s) ≤ℤ e) × ((k : ℤ) → (s *ℤ k) ≤ℤ e → k ≤ℤ floor_of e s)
 
+-- a stamp before a second one, and that before a third one, is before the third one
 abbrev pub BeforeIsTransitive : Type 0
 BeforeIsTransitive = (p q r : List ℤ) → Before p q → Before q r → Before p r
 
--- with transitivity: of two stamps at most one is before the other
+-- no stamp is before itself; with the law above, of two stamps at most one is before the other
 abbrev pub BeforeIsIrreflexive : Type 0
 BeforeIsIrreflexive = (p : List ℤ) → ¬ Before p p
 
