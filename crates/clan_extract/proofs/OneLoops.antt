@@ -1,5 +1,5 @@
 -- The SCoP of one loop runs to the loop's memory.
-use Rattle.std.proofs.Common.{◌≡◌, inl, inr, ℕ, zero, suc, List, [], ◌∷◌, ◌++◌, length, map, true, false, cond, ◌||◌, refl, sym, ◌∙◌, ap, subst, arith, ℤ, pos, ◌+ℤ◌, ◌≤ℤ◌, ◌<ℤ◌}
+use Rattle.std.proofs.Common.{Some, ◌≡◌, inl, inr, ℕ, zero, suc, List, [], ◌∷◌, ◌++◌, length, map, true, false, cond, ◌||◌, refl, sym, ◌∙◌, ap, subst, arith, ℤ, pos, ◌+ℤ◌, ◌≤ℤ◌, ◌<ℤ◌}
 use Rattle.std.specs.Prelude.{int_lt, bytes_eq}
 use Rattle.std.proofs.lemmas.Slice.Eq.{bytes_eq-Decides}
 use Rattle.std.proofs.lemmas.Int.{ints}
@@ -10,7 +10,7 @@ use Rattle.scop_core.specs.Memory.{App, NoTerms, Memory, initial, stored}
 use Rattle.scop_core.specs.Meaning.{Instance, IsInstance, affine_at, stamp, step, Run}
 use Rattle.clan_extract.specs.Regions.{IsLess, Name, parameters_of, first_occurrences, without}
 use Rattle.clan_extract.specs.Execution.{value_of, parameter_value, loop_values, AsLongAs, run_nodes, setting_of}
-use Rattle.clan_extract.specs.Translation.{RunsAs, OneLoop, one_loop_body, one_loop_region, the_iterator, one_loop_domain, one_loop_scop, OneLoopMeansItsRegion}
+use Rattle.clan_extract.specs.Translation.{RunsAs, OneLoop, one_loop_body, one_loop_region, the_iterator, one_loop_domain, one_loop_scop, OneLoopMeansItsRegion, OneLoopHasItsNames}
 use Rattle.clan_extract.proofs.Loops.{loops_run, values_within, values_all}
 
 same_name : (name : List ℕ) → bytes_eq name name ≡ true
@@ -124,3 +124,6 @@ pub one_loop_means : OneLoopMeansItsRegion
 one_loop_means l [] e = absurd (omega (arith, e, ap length (parameters_are l (pos 0))))
 one_loop_means l (N ∷ []) e = runs_as l N
 one_loop_means l (N ∷ (w ∷ ws)) e = absurd (omega (arith, e, ap length (parameters_are l (pos 0))))
+
+pub one_loop_names : OneLoopHasItsNames
+one_loop_names l = record { parameters = ap Some (sym (parameters_are l (pos 0))); arrays = refl }

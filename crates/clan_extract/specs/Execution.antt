@@ -5,19 +5,20 @@ use Rattle.std.specs.Ordering.{int_eq}
 use Rattle.scop_core.specs.Sequences.{fold_steps}
 use Rattle.scop_core.specs.Memory.{Cell, App, Memory, initial, stored, terms_at}
 use Rattle.scop_core.specs.Meaning.{floor_of}
-use Rattle.clan_extract.specs.Regions.{Expression, Number, Name, Sum, Difference, Product, Negation, Greatest, Least, Ceiling, Floor, Remainder, Comparison, IsLess, IsLessOrEqual, IsGreater, IsGreaterOrEqual, IsEqual, IsUnequal, Condition, Compare, Both, Either, Opposite, Reference, Assignment, Node, For, If, Assign, Nodes, NoNodes, Then, parameters_of, arrays_of, array_references, number_in}
+use Rattle.clan_extract.specs.Regions.{Expression, Number, Name, Sum, Difference, Product, Negation, Maximum, Minimum, Ceiling, Floor, Remainder, Comparison, IsLess, IsLessOrEqual, IsGreater, IsGreaterOrEqual, IsEqual, IsUnequal, Condition, Compare, Both, Either, Opposite, Reference, Assignment, Node, For, If, Assign, Nodes, NoNodes, Then, parameters_of, arrays_of, array_references, number_in}
 
 -- a loop that is running: its name and the value that it has now
 pub record Binding : Type 0 where
   pub name : List ℕ
   pub value : ℤ
 
--- what stands fast for a whole region: its parameters with their values, and its arrays
+-- what is fixed for a whole region: its parameters with their values, and its arrays
 pub record Setting : Type 0 where
   pub parameters : List (List ℕ)
   pub values : List ℤ
   pub arrays : List (List ℕ)
 
+-- the value of a parameter, at its place in the list of values
 abbrev pub parameter_value : List (List ℕ) → List ℤ → List ℕ → ℤ
 parameter_value [] values name = pos 0
 parameter_value (x ∷ xs) [] name = pos 0
@@ -28,6 +29,7 @@ abbrev pub value_inside : List Binding → List ℕ → ℤ → ℤ
 value_inside [] name given = given
 value_inside (b ∷ inner) name given = value_inside inner name (cond (bytes_eq b.name name) b.value given)
 
+-- the value of a name: of the innermost loop of this name, else of the parameter
 abbrev pub name_value : Setting → List Binding → List ℕ → ℤ
 name_value setting loops name = value_inside loops name (parameter_value setting.parameters setting.values name)
 
@@ -40,12 +42,13 @@ value_of setting loops (Sum left right) = value_of setting loops left +ℤ value
 value_of setting loops (Difference left right) = value_of setting loops left -ℤ value_of setting loops right
 value_of setting loops (Product left right) = value_of setting loops left *ℤ value_of setting loops right
 value_of setting loops (Negation of) = neg_ℤ (value_of setting loops of)
-value_of setting loops (Greatest left right) = int_max (value_of setting loops left) (value_of setting loops right)
-value_of setting loops (Least left right) = int_min (value_of setting loops left) (value_of setting loops right)
+value_of setting loops (Maximum left right) = int_max (value_of setting loops left) (value_of setting loops right)
+value_of setting loops (Minimum left right) = int_min (value_of setting loops left) (value_of setting loops right)
 value_of setting loops (Ceiling of divisor) = neg_ℤ (floor_of (neg_ℤ (value_of setting loops of)) (pos divisor))
 value_of setting loops (Floor of divisor) = floor_of (value_of setting loops of) (pos divisor)
 value_of setting loops (Remainder of divisor) = int_rem (value_of setting loops of) (pos divisor)
 
+-- the comparison holds
 abbrev pub compare : Comparison → ℤ → ℤ → Bool
 compare IsLess a b = int_lt a b
 compare IsLessOrEqual a b = int_le a b
@@ -54,6 +57,7 @@ compare IsGreaterOrEqual a b = int_le b a
 compare IsEqual a b = int_eq a b
 compare IsUnequal a b = not (int_eq a b)
 
+-- the condition holds
 abbrev pub truth_of : Setting → List Binding → Condition → Bool
 truth_of setting loops (Compare comparison left right) = compare comparison (value_of setting loops left) (value_of setting loops right)
 truth_of setting loops (Both left right) = truth_of setting loops left && truth_of setting loops right
@@ -70,6 +74,7 @@ values_while test step (suc most) v = cond (test v) (v ∷ values_while test ste
 abbrev pub loop_values : Comparison → ℤ → ℤ → ℤ → List ℤ
 loop_values comparison start bound step = values_while (λ v. compare comparison v bound) step (unsigned_abs (bound -ℤ start) + 1) start
 
+-- the cell of a reference: the number of its array, and the values of its subscripts
 abbrev pub cell_of : Setting → List Binding → Reference → Cell
 cell_of setting loops r = record { array = number_in setting.arrays r.name; subscripts = map (λ e. value_of setting loops e) r.subscripts }
 
@@ -77,7 +82,8 @@ cell_of setting loops r = record { array = number_in setting.arrays r.name; subs
 abbrev pub reads_of : Setting → List Binding → Assignment → List Reference
 reads_of setting loops a = cond a.updates (a.target ∷ []) [] ++ array_references setting.parameters (map (λ b. b.name) loops) a.right
 
--- what an assignment computes from the memory that it finds
+-- the memory after an assignment: at its target the term of its text, of the names and values of the loops round it,
+-- of the parameters and of what it reads
 abbrev pub assigned : Setting → List Binding → Assignment → Memory → Memory
 assigned setting loops a m =
     stored m (cell_of setting loops a.target)
@@ -97,6 +103,7 @@ abbrev mutual
   run_nodes setting loops NoNodes m = m
   run_nodes setting loops (Then first rest) m = run_nodes setting loops rest (run_node setting loops first m)
 
+-- a region with the values n of its parameters
 abbrev pub setting_of : Nodes → List ℤ → Setting
 setting_of region n = record { parameters = parameters_of region; values = n; arrays = arrays_of region }
 
@@ -118,7 +125,7 @@ Approaches IsGreaterOrEqual step = step ≤ℤ negsuc 0
 Approaches IsEqual step = ⊥
 Approaches IsUnequal step = ⊥
 
--- what a loop's values are said to be is what they are
+-- a loop runs for its start and each next value, as long as its comparison holds
 abbrev pub LoopsRunAsLongAs : Type 0
 LoopsRunAsLongAs = (comparison : Comparison) (step : ℤ) → Approaches comparison step → (start bound : ℤ)
     → AsLongAs (λ v. compare comparison v bound) step start (loop_values comparison start bound step)

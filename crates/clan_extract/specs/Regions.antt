@@ -9,12 +9,13 @@ pub data Expression : Type 0 where
   Difference : (left : Expression) → (right : Expression) → Expression
   Product : (left : Expression) → (right : Expression) → Expression
   Negation : (of : Expression) → Expression
-  Greatest : (left : Expression) → (right : Expression) → Expression
-  Least : (left : Expression) → (right : Expression) → Expression
+  Maximum : (left : Expression) → (right : Expression) → Expression
+  Minimum : (left : Expression) → (right : Expression) → Expression
   Ceiling : (of : Expression) → (divisor : ℕ) → Expression
   Floor : (of : Expression) → (divisor : ℕ) → Expression
   Remainder : (of : Expression) → (divisor : ℕ) → Expression
 
+-- the sign of a comparison
 pub data Comparison : Type 0 where
   IsLess : Comparison
   IsLessOrEqual : Comparison
@@ -23,6 +24,7 @@ pub data Comparison : Type 0 where
   IsEqual : Comparison
   IsUnequal : Comparison
 
+-- the condition of a branch
 pub data Condition : Type 0 where
   Compare : (comparison : Comparison) → (left : Expression) → (right : Expression) → Condition
   Both : (left : Condition) → (right : Condition) → Condition
@@ -42,7 +44,8 @@ pub record Assignment : Type 0 where
   pub updates : Bool
   pub right : List Reference
 
--- a statement, and a list of statements; a missing branch, a block and an empty statement are lists
+-- a statement, and a list of statements; a block is its list, an empty statement and a missing branch are the list without any.
+-- The step of a loop is negative for a downward one
 mutual
   pub data Node : Type 0 where
     For : (name : List ℕ) → (start : Expression) → (comparison : Comparison) → (bound : Expression) → (step : ℤ) → (body : Nodes) → Node
@@ -53,6 +56,7 @@ mutual
     NoNodes : Nodes
     Then : (first : Node) → (rest : Nodes) → Nodes
 
+-- the name stands in the list
 abbrev pub is_among : List ℕ → List (List ℕ) → Bool
 is_among name [] = false
 is_among name (x ∷ xs) = bytes_eq x name || is_among name xs
@@ -72,6 +76,7 @@ abbrev pub outside : List (List ℕ) → List (List ℕ) → List (List ℕ)
 outside scope [] = []
 outside scope (x ∷ xs) = cond (is_among x scope) (outside scope xs) (x ∷ outside scope xs)
 
+-- the names of an expression, of a condition and of a list of expressions, in the order of the text
 abbrev pub names_in : Expression → List (List ℕ)
 names_in (Number value) = []
 names_in (Name name) = name ∷ []
@@ -79,8 +84,8 @@ names_in (Sum left right) = names_in left ++ names_in right
 names_in (Difference left right) = names_in left ++ names_in right
 names_in (Product left right) = names_in left ++ names_in right
 names_in (Negation of) = names_in of
-names_in (Greatest left right) = names_in left ++ names_in right
-names_in (Least left right) = names_in left ++ names_in right
+names_in (Maximum left right) = names_in left ++ names_in right
+names_in (Minimum left right) = names_in left ++ names_in right
 names_in (Ceiling of divisor) = names_in of
 names_in (Floor of divisor) = names_in of
 names_in (Remainder of divisor) = names_in of
@@ -95,13 +100,14 @@ abbrev pub names_in_all : List Expression → List (List ℕ)
 names_in_all [] = []
 names_in_all (e ∷ es) = names_in e ++ names_in_all es
 
-abbrev pub is_none : List Expression → Bool
-is_none [] = true
-is_none (e ∷ es) = false
+-- there are no expressions
+abbrev pub is_empty : List Expression → Bool
+is_empty [] = true
+is_empty (e ∷ es) = false
 
 -- a name without subscripts
 abbrev pub is_plain : Reference → Bool
-is_plain reference = is_none reference.subscripts
+is_plain reference = is_empty reference.subscripts
 
 -- of a right side the plain names that are among the known ones, and the names of all subscripts
 abbrev pub names_in_right : List (List ℕ) → List Reference → List (List ℕ)
@@ -127,6 +133,7 @@ parameters_of region = first_occurrences (parameter_names_of_all (parameter_name
 abbrev pub is_array : List (List ℕ) → List (List ℕ) → Reference → Bool
 is_array parameters scope r = not (is_plain r) || not (is_among r.name scope || is_among r.name parameters)
 
+-- of these references those that are arrays
 abbrev pub array_references : List (List ℕ) → List (List ℕ) → List Reference → List Reference
 array_references parameters scope rs = filter (λ r. is_array parameters scope r) rs
 
@@ -149,3 +156,8 @@ arrays_of region = first_occurrences (array_names_of_all (parameters_of region) 
 abbrev pub number_in : List (List ℕ) → List ℕ → ℤ
 number_in [] name = pos 0
 number_in (x ∷ xs) name = cond (bytes_eq x name) (pos 1) (pos 1 +ℤ number_in xs name)
+
+-- names with numbers, counted on from k
+abbrev pub numbered : ℤ → List (List ℕ) → List (ℤ × List ℕ)
+numbered k [] = []
+numbered k (x ∷ xs) = (k, x) ∷ numbered (k +ℤ pos 1) xs

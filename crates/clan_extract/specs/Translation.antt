@@ -8,7 +8,7 @@ use Rattle.scop_core.specs.declared.statements.Statement.{Statement}
 use Rattle.scop_core.specs.ScopData.{ScopData}
 use Rattle.scop_core.specs.Memory.{Agree}
 use Rattle.scop_core.specs.Meaning.{Instance, Run, final}
-use Rattle.clan_extract.specs.Regions.{Number, Name, IsLess, For, Assign, Nodes, NoNodes, Then, parameters_of}
+use Rattle.clan_extract.specs.Regions.{Number, Name, IsLess, For, Assign, Nodes, NoNodes, Then, parameters_of, arrays_of, numbered}
 use Rattle.clan_extract.specs.Execution.{memory_after_region}
 
 -- S has a run at n whose final memory is the memory after the region
@@ -21,7 +21,7 @@ pub record RunsAs (S : ScopData) (region : Nodes) (n : List ℤ) : Type 0 where
 abbrev pub Means : ScopData → Nodes → Type 0
 Means S region = (n : List ℤ) → length n ≡ length (parameters_of region) → RunsAs S region n
 
--- for (X = C; X < P; X++) A[X] = D; with the text of its assignment
+-- the names X, P, A and the start C of for (X = C; X < P; X++) A[X] = D; and the text of its assignment
 pub record OneLoop : Type 0 where
   pub iterator : List ℕ
   pub start : ℕ
@@ -29,6 +29,7 @@ pub record OneLoop : Type 0 where
   pub array : List ℕ
   pub text : List ℕ
 
+-- A[X] = D;
 abbrev pub one_loop_body : OneLoop → Nodes
 one_loop_body l = Then (Assign (record {
   text = l.text;
@@ -37,6 +38,7 @@ one_loop_body l = Then (Assign (record {
   right = [];
 })) NoNodes
 
+-- for (X = C; X < P; X++) A[X] = D;
 abbrev pub one_loop_region : OneLoop → Nodes
 one_loop_region l = Then (For l.iterator (Number l.start) IsLess (Name l.parameter) (pos 1) (one_loop_body l)) NoNodes
 
@@ -52,6 +54,7 @@ one_loop_domain start = record {
       ∷ (record { kind = AtLeast; entries = negsuc 0 ∷ (pos 1 ∷ (negsuc 0 ∷ [])) } ∷ []);
 }
 
+-- at the stamp 0, X, 0 it writes A[X] and reads nothing
 abbrev pub one_loop_statement : OneLoop → Statement
 one_loop_statement l = record {
   domain = one_loop_domain l.start ∷ [];
@@ -75,3 +78,12 @@ one_loop_scop l = record {
 -- the one loop's SCoP means what the loop means, for every start, names and text
 abbrev pub OneLoopMeansItsRegion : Type 0
 OneLoopMeansItsRegion = (l : OneLoop) → Means (one_loop_scop l) (one_loop_region l)
+
+-- its parameter is the region's, and its list of arrays numbers the region's arrays by their first occurrence
+pub record HasNamesOf (S : ScopData) (region : Nodes) : Type 0 where
+  pub parameters : S.parameters ≡ Some (parameters_of region)
+  pub arrays : S.arrays ≡ Some (numbered (pos 1) (arrays_of region))
+
+-- the SCoP of one loop has the names of the loop
+abbrev pub OneLoopHasItsNames : Type 0
+OneLoopHasItsNames = (l : OneLoop) → HasNamesOf (one_loop_scop l) (one_loop_region l)

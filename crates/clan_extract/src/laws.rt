@@ -1,7 +1,7 @@
 //! The laws of the translation: functions that do nothing, and whose contracts are the laws.
 
 ghost use Rattle.clan_extract.specs.Execution.{LoopsRunAsLongAs};
-ghost use Rattle.clan_extract.specs.Translation.{OneLoopMeansItsRegion};
+ghost use Rattle.clan_extract.specs.Translation.{OneLoopMeansItsRegion, OneLoopHasItsNames};
 
 /// The values of a loop are its start and each next one, as long as the comparison with its bound
 /// holds; where its step goes toward the bound no count cuts them off.
@@ -13,4 +13,9 @@ pub fn loops_run_as_long_as()
 /// after the C region.
 pub fn one_loop_means_its_region()
     ensures { OneLoopMeansItsRegion }
+{}
+
+/// The SCoP of one loop names the loop's parameter, and numbers its array by first occurrence.
+pub fn one_loop_has_its_names()
+    ensures { OneLoopHasItsNames }
 {}
