@@ -1,4 +1,5 @@
 pub mod RegionLemmas
 pub mod PlaceLemmas
 pub mod RegionBounds
+pub mod TokenLemmas
 mod Checks
