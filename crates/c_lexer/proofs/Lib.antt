@@ -2,4 +2,5 @@ pub mod RegionLemmas
 pub mod PlaceLemmas
 pub mod RegionBounds
 pub mod TokenLemmas
+pub mod ReadingLemmas
 mod Checks

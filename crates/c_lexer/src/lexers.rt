@@ -1,7 +1,8 @@
 //! Cuts a region into tokens, one at a time.
 
-ghost use Rattle.std.specs.Prelude.{◌≡◌, ◌<◌, ◌≤◌, ◌-◌, ◌^◌, length, take, IfOk, IfNone, OnErr, Ok, None};
+ghost use Rattle.std.specs.Prelude.{◌≡◌, ◌<◌, ◌≤◌, ◌+◌, ◌-◌, ◌^◌, length, take, drop, IfOk, IfNone, OnErr, Ok, None};
 ghost use Rattle.c_lexer.specs.Places.{place_at};
+ghost use Rattle.c_lexer.specs.Tokens.{gap};
 ghost use Rattle.c_lexer.specs.Readings as spec;
 
 use crate::cuts::{gap, token_at};
@@ -73,8 +74,7 @@ impl<'a> Lexer<'a> {
         ensures refused { OnErr result (self.new ≡ self.old) }
         ensures ended { IfOk result (λ token. IfNone token (spec.next self.new ≡ Ok None)) }
     {
-        let left = &self.text[self.at..];
-        let (blank, rest) = left.split_at(gap(left));
+        let (blank, rest) = ahead(self.text, self.at);
         let place = after_bytes(self.place, blank);
         if rest.is_empty() {
             self.at = self.text.len();
@@ -89,4 +89,16 @@ impl<'a> Lexer<'a> {
         self.place = after_bytes(place, text);
         Ok(Some(Token { kind, text, place }))
     }
+}
+
+/// What separates byte `at` from the next token, and what follows it.
+fn ahead(text: &[u8], at: usize) -> (&[u8], &[u8])
+    requires { at ≤ length text.now }
+    ensures gap { length result.0.now ≡ gap (drop at text.now) }
+    ensures blank { result.0.now ≡ take (length result.0.now) (drop at text.now) }
+    ensures rest { result.1.now ≡ drop (at + length result.0.now) text.now }
+    ensures whole { at + length result.0.now + length result.1.now ≡ length text.now }
+{
+    let left = &text[at..];
+    left.split_at(gap(left))
 }

@@ -12,3 +12,6 @@ pub use lexers::Lexer;
 pub use pragmas::{Pragma, pragma_of};
 pub use regions::{RegionFail, Span, find_region};
 pub use tokens::{BadToken, Token, TokenKind};
+
+#[cfg(test)]
+mod tests;
