@@ -1,0 +1,8 @@
+pub mod RowLists
+pub mod Orders
+pub mod Reordering
+pub mod Memories
+pub mod Floors
+pub mod Stamps
+pub mod RunLaws
+mod Checks
