@@ -41,7 +41,7 @@ second_region : region_of (codes "#pragma scop\n#pragma endscop\n\n#pragma scop\
 second_region = refl
 
 -- what separates: blanks, newlines and both comments; one without end does not
-gap_of_all : gap (codes " \t/*a**/// b\n/**/x") ≡ 16
+gap_of_all : gap (codes " \t/*a**/// b\n/**/x") ≡ 17
 gap_of_all = refl
 
 gap_without_end : gap (codes " /* a") ≡ 1
