@@ -1,6 +1,6 @@
-use Rattle.std.proofs.Common.{sym, ◌∙◌, arith, rules, length-drop}
+use Rattle.std.proofs.Common.{arith, length-drop}
 use Rattle.std.proofs.lemmas.List.{take_rest}
-use Rattle.c_lexer.proofs.TokenLemmas.{gap_goes, gap_stops}
+use Rattle.c_lexer.proofs.TokenLemmas.{gap_goes}
 use Rattle.c_lexer.proofs.cuts.gap.Goals as goal
 
 pub loop-left-preserved : goal.loop-left-preserved

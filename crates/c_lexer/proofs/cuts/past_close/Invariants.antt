@@ -1,4 +1,4 @@
-use Rattle.std.proofs.Common.{◌≡◌, ◌+◌, drop}
+use Rattle.std.proofs.Common.{◌≡◌, drop}
 use Rattle.c_lexer.specs.Tokens.{past_close}
 use Rattle.c_lexer.proofs.TokenLemmas.{plus}
 use Rattle.c_lexer.proofs.cuts.past_close.Given as goal
