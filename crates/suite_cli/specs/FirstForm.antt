@@ -1,5 +1,5 @@
 -- The text of one loop between two pragma lines: the only one that this version of `clan` reads.
-use Rattle.std.specs.Prelude.{◌≡◌, ◌≢◌, ℕ, Bool, true, not, List, [], ◌∷◌, ◌++◌, cond, codes}
+use Rattle.std.specs.Prelude.{◌≡◌, ◌≢◌, ℕ, Bool, true, not, List, [], ◌∷◌, ◌++◌, cond, codes, Option, Some, None, IsSomeAnd, ◌&&◌}
 use Rattle.std.specs.List.{list_any}
 use Rattle.suite_base.specs.Lines.{lines, trim}
 use Rattle.suite_base.specs.Numbers.{digits_after}
@@ -7,6 +7,7 @@ use Rattle.suite_base.specs.declared.refusals.Refusal.{Refusal}
 use Rattle.suite_base.specs.declared.refusals.Refusal.TheVariants.{NoRegion, OutsideFirstPath}
 use Rattle.c_lexer.specs.Pragmas.{is_scop_line, is_endscop_line}
 use Rattle.clan_extract.specs.Translation.{OneLoop}
+use Rattle.suite_cli.specs.declared.first_form.LoopText.{LoopText}
 use Rattle.suite_cli.specs.Names.{is_empty, is_free_name, is_short_number}
 
 -- the names of the loop, its parameter and its array, and the digits of its start and of what it assigns
@@ -46,23 +47,27 @@ content_of (line ∷ more) = cond (is_empty (trim line)) (content_of more) (trim
 abbrev pub content_lines : List ℕ → List (List ℕ)
 content_lines bytes = content_of (lines bytes)
 
--- four lines: a head and an assignment between the two pragma lines
-abbrev pub IsFramed : (List ℕ → Type 0) → (List ℕ → Type 0) → List (List ℕ) → Type 0
-IsFramed head assignment [] = ⊥
-IsFramed head assignment (a ∷ []) = ⊥
-IsFramed head assignment (a ∷ (b ∷ [])) = ⊥
-IsFramed head assignment (a ∷ (b ∷ (c ∷ []))) = ⊥
-IsFramed head assignment (a ∷ (b ∷ (c ∷ (d ∷ [])))) = (is_scop_line a ≡ true) × head b × assignment c × (is_endscop_line d ≡ true)
-IsFramed head assignment (a ∷ (b ∷ (c ∷ (d ∷ (e ∷ more))))) = ⊥
+-- the two lines between a line that opens a region and one that closes it, where there are just these four
+abbrev pub frame_of : List (List ℕ) → Option (List ℕ × List ℕ)
+frame_of [] = None
+frame_of (a ∷ []) = None
+frame_of (a ∷ (b ∷ [])) = None
+frame_of (a ∷ (b ∷ (c ∷ []))) = None
+frame_of (a ∷ (b ∷ (c ∷ (d ∷ [])))) = cond (is_scop_line a && is_endscop_line d) (Some (b, c)) None
+frame_of (a ∷ (b ∷ (c ∷ (d ∷ (e ∷ more))))) = None
 
 -- the text is that of the loop with these words
 pub record IsFirstForm (bytes : List ℕ) (l : LoopWords) : Type 0 where
-  pub framed : IsFramed (λ line. IsHead line l.iterator l.start l.parameter) (λ line. IsAssignment line l.array l.iterator l.value) (content_lines bytes)
+  pub framed : IsSomeAnd (frame_of (content_lines bytes)) (λ frame. IsHead frame.0 l.iterator l.start l.parameter × IsAssignment frame.1 l.array l.iterator l.value)
   pub names_differ : (l.iterator ≢ l.parameter) × (l.iterator ≢ l.array) × (l.parameter ≢ l.array)
 
 -- some line opens a region
 abbrev pub has_scop_line : List ℕ → Bool
 has_scop_line bytes = list_any is_scop_line (lines bytes)
+
+-- the words of a text as the reader keeps them
+abbrev pub words_of : LoopText → LoopWords
+words_of t = record { iterator = t.iterator.now; start = t.start.now; parameter = t.parameter.now; array = t.array.now; value = t.value.now }
 
 -- why a text is not that of such a loop
 abbrev pub IsRefusal : List ℕ → Refusal → Type 0
