@@ -1,5 +1,5 @@
 -- The laws of a commutative ordered ring over ℤ that linear arithmetic alone does not find.
-use Rattle.std.specs.Prelude.{ℤ, pos, negsuc, ◌+ℤ◌, ◌*ℤ◌, neg_ℤ, ◌≤ℤ◌, ◌<ℤ◌, ℕ, ◌+◌, ◌*◌, ◌≤◌, ◌≡◌, refl}
+use Rattle.std.specs.Prelude.{ℤ, pos, negsuc, ◌+ℤ◌, ◌*ℤ◌, neg_ℤ, ◌≤ℤ◌, ◌<ℤ◌, ◌*◌, ◌≤◌, ◌≡◌}
 use Rattle.std.proofs.Common.{ap, sym, ◌∙◌, arith}
 use Rattle.std.proofs.lemmas.Int.{ints, by_lt_z}
 use Rattle.std.proofs.Math.Nat.{mul-le-mul_left}
