@@ -1,2 +1,4 @@
 pub mod ScopData
 pub mod SolvedRows
+pub mod Layouts
+pub mod Validity

@@ -2,6 +2,7 @@
 
 ghost use Rattle.std.specs.Prelude.{◌≡◌, ◌<◌, length, slice_get, OnSome};
 ghost use Rattle.std.specs.Option.{option_copied};
+ghost use Rattle.scop_core.specs.Validity.{IsValid};
 
 use crate::statements::{Extension, Statement};
 use relation_core::Part;
@@ -26,6 +27,10 @@ impl Model for Scop {
     ghost Value = { ScopData };
 
     ghost view = { λ s. record { language = s.language; context = s.context; parameters = s.parameters; statements = s.statements; arrays = s.arrays; extensions = s.extensions } };
+
+    ghost use Rattle.scop_core.specs.Validity.{IsValid};
+
+    ghost invariant = { λ s. IsValid (record { language = s.language; context = s.context; parameters = s.parameters; statements = s.statements; arrays = s.arrays; extensions = s.extensions }) };
 }
 
 impl Scop {
@@ -39,7 +44,8 @@ impl Scop {
 
     /// The number of statements.
     pub fn statement_count(&self) -> usize
-        ensures { result ≡ length self.now.statements }
+        ensures count { result ≡ length self.now.statements }
+        ensures valid { IsValid self.now }
     {
         self.statements.len()
     }
