@@ -1,2 +1,4 @@
 pub mod LineCuts
+pub mod FilesUnder
+pub mod Pieces
 mod Checks
