@@ -1,6 +1,6 @@
 use Rattle.std.proofs.Common.{◌≡◌, ℤ, pos, negsuc, ℕ, List, [], ◌∷◌, ◌++◌, Option, None, Some, refl}
 use Rattle.std.specs.Prelude.{codes}
-use Rattle.core.specs.Fmt.{digits}
+use Rattle.std.specs.Fmt.{digits}
 use Rattle.relation_core.specs.declared.part_rows.PartRow.{PartRow}
 use Rattle.relation_core.specs.declared.part_rows.RowKind.TheVariants.{AtLeast}
 use Rattle.scop_core.specs.declared.accesses.AccessKind.TheVariants.{Write}

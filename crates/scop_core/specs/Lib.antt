@@ -2,3 +2,4 @@ pub mod ScopData
 pub mod SolvedRows
 pub mod Layouts
 pub mod Validity
+pub mod OneLoops

@@ -4,6 +4,7 @@
 
 mod accesses;
 mod affines;
+mod one_loops;
 mod origins;
 mod raw_pieces;
 mod row_builders;
