@@ -1,3 +1,4 @@
+<<<<<<< HEAD
 use Rattle.std.proofs.Common.{◌≡◌, ℤ, pos, negsuc, ℕ, List, [], ◌∷◌, ◌++◌, Option, None, Some, refl}
 use Rattle.std.specs.Prelude.{codes}
 use Rattle.std.specs.Fmt.{digits}
@@ -53,3 +54,11 @@ one_loop_printed : layout one_loop ≡
     codes "1\n<body>\n1\ni\nA[i] = 0;\n</body>\n<arrays>\n1\n1 A\n</arrays>\n</OpenScop>\n"
 unfolding digits
 one_loop_printed = refl
+=======
+-- Definitions on concrete data.
+use Rattle.std.proofs.Common.{◌≡◌, refl, pos, negsuc}
+use Rattle.scop_core.specs.Meaning.{floor_of}
+
+floor_below_zero : floor_of (negsuc 4) (pos 4) ≡ negsuc 1
+floor_below_zero = refl
+>>>>>>> origin/main

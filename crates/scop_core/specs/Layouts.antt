@@ -55,15 +55,19 @@ abbrev pub extension_layout : Extension → List ℕ
 extension_layout extension =
     codes "<" ++ extension.name ++ codes ">\n" ++ flat_map line extension.lines ++ codes "</" ++ extension.name ++ codes ">\n"
 
--- a statement: its relations, then its extensions, the body first
-abbrev pub statement_layout : ℕ → Statement → List ℕ
-statement_layout parameters statement =
+-- the relations of a statement: their number, the domain, the scattering, the accesses
+abbrev pub relations_layout : ℕ → Statement → List ℕ
+relations_layout parameters statement =
     let iterators = length statement.body.iterators
     in number_line (length statement.accesses + 2) ++ relation_layout (codes "DOMAIN") statement.domain
     ++ relation_layout (codes "SCATTERING") (schedule_part iterators parameters statement.schedule ∷ [])
     ++ flat_map (access_layout iterators parameters) statement.accesses
-    ++ number_line (length statement.extensions + 1) ++ body_layout statement.body
-    ++ flat_map extension_layout statement.extensions
+
+-- a statement: its relations, then its extensions, the body first
+abbrev pub statement_layout : ℕ → Statement → List ℕ
+statement_layout parameters statement =
+    relations_layout parameters statement ++ number_line (length statement.extensions + 1)
+    ++ body_layout statement.body ++ flat_map extension_layout statement.extensions
 
 -- the names of the parameters, where they are present
 abbrev pub parameters_layout : Option (List (List ℕ)) → List ℕ

@@ -1,10 +1,14 @@
 //! SCoPs as data: statements with domains, schedules and accesses in solved form, and the pieces that
-//! they are assembled from.
+//! they are assembled from; and the laws of their runs.
 #![tactic(auto)]
 
 mod accesses;
 mod affines;
+<<<<<<< HEAD
 mod one_loops;
+=======
+pub mod laws;
+>>>>>>> origin/main
 mod origins;
 mod raw_pieces;
 mod row_builders;

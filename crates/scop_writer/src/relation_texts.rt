@@ -1,14 +1,14 @@
 //! Relations: the type word, the number of parts and the parts.
 
-ghost use Rattle.std.specs.Prelude.{◌≡◌, ◌<◌, [], ◌∷◌, ◌++◌, length, OnOk};
+ghost use Rattle.std.specs.Prelude.{◌≡◌, ◌<◌, [], ◌∷◌, ◌++◌, length, OnOk, codes};
 ghost use Rattle.std.specs.List.{flat_map};
 ghost use Rattle.relation_core.specs.Layouts.{part_layout};
 ghost use Rattle.scop_core.specs.Layouts.{relation_layout, parts_line, access_word, access_layout};
-ghost use Rattle.scop_core.specs.SolvedRows.{HasAccessRelation};
+ghost use Rattle.scop_core.specs.SolvedRows.{schedule_part, HasRelation, HasAccessRelation};
 
 use crate::line_texts::{print_line, print_number_line};
 use relation_core::{Relation, print_part};
-use scop_core::{Access, AccessKind};
+use scop_core::{Access, AccessKind, Schedule};
 use std::alloc::Global;
 use suite_base::{NoMemory, Text};
 
@@ -65,4 +65,19 @@ pub fn print_access(
 {
     let relation = access.relation(alloc, iterators, parameters)?;
     print_relation(text, word_of(access.kind), &relation)
+}
+
+/// Appends the scattering that `schedule` is over so many iterators and parameters.
+pub fn print_schedule(
+    alloc: Global,
+    text: &mut Text,
+    schedule: &Schedule,
+    iterators: usize,
+    parameters: usize,
+) -> Result<(), NoMemory>
+    requires { HasRelation iterators parameters schedule.now }
+    ensures { OnOk result (text.new ≡ text.old ++ relation_layout (codes "SCATTERING") (schedule_part iterators parameters schedule.now ∷ [])) }
+{
+    let relation = schedule.relation(alloc, iterators, parameters)?;
+    print_relation(text, b"SCATTERING", &relation)
 }

@@ -10,6 +10,7 @@ ghost use Rattle.scop_core.specs.Validity.{IsValid};
 use crate::line_texts::{print_line, print_names, print_number_line};
 use crate::statement_texts::{print_extensions, print_statement};
 use relation_core::{Part, print_part};
+use row_core::Coeff;
 use scop_core::Scop;
 use std::alloc::Global;
 use suite_base::{NoMemory, Text};
@@ -26,10 +27,10 @@ fn print_context(text: &mut Text, context: &Part) -> Result<(), NoMemory>
 fn print_strings(text: &mut Text, names: &[Text]) -> Result<(), NoMemory>
     ensures { OnOk result (text.new ≡ text.old ++ parameters_layout (Some names.now)) }
 {
-    print_line(text, b"1")?;
-    print_line(text, b"<strings>")?;
+    text.push_bytes(b"1\n<strings>\n")?;
     print_names(text, names)?;
-    print_line(text, b"</strings>")
+    print_line(text, b"</strings>")?;
+    Ok(())
 }
 
 /// Appends the names of the parameters, where they are present.
@@ -54,6 +55,15 @@ fn print_statements(alloc: Global, text: &mut Text, scop: &Scop) -> Result<(), N
     Ok(())
 }
 
+/// Appends the line of an array.
+fn print_array(text: &mut Text, identifier: Coeff, name: &Text) -> Result<(), NoMemory>
+    ensures { OnOk result (text.new ≡ text.old ++ array_line (identifier, name.now)) }
+{
+    text.push_number(identifier.value())?;
+    text.push(b' ')?;
+    print_line(text, name.bytes())
+}
+
 /// Appends the line of array `k`, from 0, of which there is one.
 #[tactic(auto, using(crate::proofs::Pieces::next_piece))]
 fn print_array_line(text: &mut Text, scop: &Scop, k: usize) -> Result<(), NoMemory>
@@ -62,10 +72,9 @@ fn print_array_line(text: &mut Text, scop: &Scop, k: usize) -> Result<(), NoMemo
 {
     match scop.array(k) {
         None => Ok(()),
-        Some((identifier, name)) => {
-            text.push_number(identifier.value())?;
-            text.push(b' ')?;
-            print_line(text, name.bytes())
+        Some(array) => {
+            print_array(text, array.0, array.1)?;
+            Ok(())
         }
     }
 }

@@ -1,4 +1,4 @@
-use Rattle.std.specs.Prelude.{◌≡◌, ℕ, ◌-◌, ◌^◌, ◌<◌, ◌≤◌, ◌⊎◌, Option, Some, None, List, [], ◌∷◌, ◌++◌, length, take, drop, get_or, if◌then◌else◌}
+use Rattle.std.specs.Prelude.{◌≡◌, ℕ, ◌-◌, ◌^◌, ◌<◌, ◌≤◌, ◌⊎◌, Option, Some, None, List, [], ◌∷◌, ◌++◌, length, take, drop, get_or, IsSomeAnd, if◌then◌else◌}
 use Rattle.std.specs.Str.{bytes_eq}
 
 -- a count of faults, kept in 64 bits, shows a fault: it rose, or it stands at its last value
@@ -27,7 +27,7 @@ bytes_under name (file ∷ files) = if bytes_eq name file.0 then Some file.1 els
 -- opening `name` leaves the bytes under it, where the files are told
 abbrev pub Opened : Option (List (List ℕ × List ℕ)) → List ℕ → Option (List ℕ) → Type 0
 Opened None name left = Unit {0}
-Opened (Some files) name left = bytes_under name files ≡ left
+Opened (Some files) name left = IsSomeAnd (bytes_under name files) (λ bytes. left ≡ Some bytes)
 
 -- the files are told, and none has this name
 abbrev pub IsMissing : Option (List (List ℕ × List ℕ)) → List ℕ → Type 0
@@ -41,3 +41,8 @@ bytes_at files k = (get_or files k ([], [])).1
 -- a first part of what was left, of at most n bytes, was taken, where that is told
 abbrev pub TookUpTo : ℕ → Option (List ℕ) → Option (List ℕ) → Type 0
 TookUpTo n old now = (piece : List ℕ) × (length piece ≤ n) × Took old piece now
+
+-- the bytes under this name, where the files are told, meet P
+abbrev pub Under : Option (List (List ℕ × List ℕ)) → List ℕ → (List ℕ → Type 0) → Type 0
+Under None name P = Unit {0}
+Under (Some files) name P = IsSomeAnd (bytes_under name files) P

@@ -12,7 +12,7 @@ use std::alloc::Global;
 pub const MAX_INPUT: usize = 16_777_216;
 
 /// The most bytes that one call of a source is asked for.
-const PIECE: usize = 16_384;
+pub const PIECE: usize = 16_384;
 
 /// What keeps an input from being read: want of memory, a fault of the source, or more bytes than
 /// [`MAX_INPUT`].
@@ -74,7 +74,7 @@ fn read_piece<S: Source>(source: &mut S, text: &mut Text) -> Result<usize, ReadF
     ensures ends { IfOk result (λ n. n ≡ 0 → IfSome (S.left source.old) (λ bytes. bytes ≡ [])) }
     ensures taken { OnErr result (TookUpTo (MAX_INPUT + 1 - length text.old) (S.left source.old) (S.left source.new)) }
     ensures fault { IfErr result (λ fail. fail ≡ ReadFail.Fault → HasFault (S.faults source.old) (S.faults source.new)) }
-    ensures long { IfErr result (λ fail. fail ≡ ReadFail.TooLong → IfSome (S.left source.old) (λ bytes. MAX_INPUT < length bytes)) }
+    ensures small { IfErr result (λ fail. ¬ (fail ≡ ReadFail.TooLong)) }
     ensures grows { S.faults source.old ≤ S.faults source.new }
 {
     let mut buffer = [0; PIECE];

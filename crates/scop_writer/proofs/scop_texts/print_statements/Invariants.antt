@@ -5,5 +5,5 @@ use Rattle.scop_writer.proofs.scop_texts.print_statements.Given as goal
 
 abbrev pub invariant-loop-statement : goal.invariant-loop-statement
 invariant-loop-statement l =
-    l.text ++ flat_map (statement_layout l.scop.context.shape.parameters) (drop l.statement-index l.statements)
-    ≡ l.fn.text ++ flat_map (statement_layout l.scop.context.shape.parameters) l.statements
+    l.text ++ flat_map (statement_layout l.parameters) (drop l.statement-index l.statements)
+    ≡ l.fn.text ++ flat_map (statement_layout l.parameters) l.statements

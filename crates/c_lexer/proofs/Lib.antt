@@ -1,0 +1,4 @@
+pub mod RegionLemmas
+pub mod PlaceLemmas
+pub mod RegionBounds
+mod Checks

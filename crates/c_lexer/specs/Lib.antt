@@ -1,0 +1,3 @@
+pub mod Pragmas
+pub mod Places
+pub mod Regions
