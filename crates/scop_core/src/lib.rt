@@ -4,11 +4,8 @@
 
 mod accesses;
 mod affines;
-<<<<<<< HEAD
-mod one_loops;
-=======
 pub mod laws;
->>>>>>> origin/main
+mod one_loops;
 mod origins;
 mod raw_pieces;
 mod row_builders;
