@@ -5,6 +5,7 @@
 mod accesses;
 mod affines;
 pub mod laws;
+mod one_loops;
 mod origins;
 mod raw_pieces;
 mod row_builders;
