@@ -1,11 +1,10 @@
 -- The definitions on concrete systems.
-use Rattle.std.specs.Prelude.{ℤ, pos, negsuc, ◌≡◌, refl, List, [], ◌∷◌}
+use Rattle.std.specs.Prelude.{pos, negsuc, ◌≡◌, refl, [], ◌∷◌}
 use Rattle.std.proofs.Common.{arith}
 use Rattle.std.proofs.lemmas.Int.{ints}
-use Rattle.relation_core.specs.declared.shapes.Shape.{Shape}
 use Rattle.relation_core.specs.declared.part_rows.RowKind.TheVariants.{Equal, AtLeast}
-use Rattle.relation_core.specs.Systems.{System, width}
-use Rattle.relation_core.specs.Points.{MeetsAll, RationalPoint, LiesIn, column, column_weight}
+use Rattle.relation_core.specs.Systems.{System}
+use Rattle.relation_core.specs.Points.{RationalPoint, LiesIn, column, column_weight}
 
 -- 0 <= i and i <= N - 1, over the iterator i and the parameter N
 abbrev upward : System

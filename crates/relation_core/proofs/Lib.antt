@@ -1,2 +1,3 @@
 mod Checks
+pub mod Points
 pub mod Systems

@@ -1,5 +1,5 @@
 -- The definitions on concrete rows.
-use Rattle.std.specs.Prelude.{ℤ, pos, negsuc, ◌≡◌, ◌≤◌, ◌^◌, refl, ◌-◌, List, [], ◌∷◌}
+use Rattle.std.specs.Prelude.{pos, negsuc, ◌≡◌, ◌^◌, refl, ◌-◌, [], ◌∷◌}
 use Rattle.std.proofs.Common.{arith}
 use Rattle.row_core.specs.Rows.{entry, dot, add_rows, scale, combined, combined_weight, IsHeavy}
 use Rattle.row_core.specs.Sparse.{nonzeros, spread}

@@ -38,6 +38,7 @@ fn row_of<R: Row>(rt: &impl Abort, alloc: Global, values: &[i128]) -> Result<R, 
     Ok(R::from_coeffs(alloc, list.as_slice())?)
 }
 
+#[derive(Drop)]
 struct Case {
     p: i128,
     a: &'static [i128],
@@ -182,9 +183,9 @@ fn sums_and_negatives(rt: HostRuntime) -> Result<(), Fail> {
 fn signs_and_exchanges(rt: HostRuntime) -> Result<(), Fail> {
     let mut row: DenseRow = row_of(&rt, rt.alloc(), &[MOST, 0, -3])?;
     assert_eq!(rt; row.len(), 3);
-    for (k, sign) in [(0, 1), (1, 0), (2, -1)] {
-        assert_eq!(rt; value_sign(&row, k), sign);
-    }
+    assert_eq!(rt; value_sign(&row, 0), 1);
+    assert_eq!(rt; value_sign(&row, 1), 0);
+    assert_eq!(rt; value_sign(&row, 2), -1);
     swap_columns(&mut row, 0, 2);
     has_entries(&rt, &row, &[-3, 0, MOST]);
     Ok(())
