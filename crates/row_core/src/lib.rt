@@ -18,3 +18,6 @@ pub use entries::Entry;
 pub use representations::Row;
 pub use sparse_rows::SparseRow;
 pub use sums::Sum;
+
+#[cfg(test)]
+mod tests;
