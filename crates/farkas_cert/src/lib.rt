@@ -1,0 +1,9 @@
+//! Farkas certificates: multipliers that show a system of rows to have no rational point, their
+//! check, and their text.
+#![tactic(auto)]
+
+mod certificates;
+mod checks;
+
+pub use certificates::Certificate;
+pub use checks::{TooHeavy, check, valid_means_empty};
