@@ -40,6 +40,10 @@ combined_weight p [] q b = 0
 combined_weight p (x ∷ a) q [] = 0
 combined_weight p (x ∷ a) q (y ∷ b) = max (pair_weight p x q y) (combined_weight p a q b)
 
+-- every entry is a coefficient: its absolute value is below 2^127
+pub record AreCoefficients (row : List ℤ) : Type 0 where
+  pub bound : (k : ℕ) → unsigned_abs (entry row k) < 2 ^ 127
+
 -- in some column of both rows the two products have absolute values that sum above 2^127 - 1
 abbrev pub IsHeavy : ℤ → List ℤ → ℤ → List ℤ → Type 0
 IsHeavy p a q b = (k : ℕ) × (k < length a) × (k < length b) × (2 ^ 127 ≤ pair_weight p (entry a k) q (entry b k))

@@ -1,6 +1,7 @@
 //! A coefficient: an integer whose absolute value is below 2^127, so that its negative is one too.
 
 ghost use Rattle.std.specs.Prelude.{◌≡◌, ◌<◌, ◌^◌, negsuc, pos, neg_ℤ, unsigned_abs, MatchOption};
+ghost use Rattle.std.specs.Int.{int_signum};
 
 use std::marker::Model;
 
@@ -57,6 +58,19 @@ impl Coeff {
         ensures { result ≡ neg_ℤ self }
     {
         Coeff { value: -self.value }
+    }
+
+    /// The sign of the coefficient: -1, 0 or 1.
+    pub fn sign(self) -> i8
+        ensures { result ≡ int_signum self }
+    {
+        if self.value > 0 {
+            1
+        } else if self.value < 0 {
+            -1
+        } else {
+            0
+        }
     }
 
     /// The integer that the coefficient holds.
