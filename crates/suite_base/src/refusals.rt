@@ -1,5 +1,9 @@
 //! The refusals of the whole suite, with their numbers and names.
 
+ghost use Rattle.std.specs.Prelude.{◌≡◌};
+ghost use Rattle.suite_base.specs.declared.refusals.Fail.TheVariants.{Memory};
+
+use crate::memory::NoMemory;
 use crate::places::Place;
 
 /// What keeps a call from its answer: want of memory, or a refusal of the input.
@@ -7,6 +11,14 @@ use crate::places::Place;
 pub enum Fail {
     Memory,
     Refused(Refusal),
+}
+
+impl From<NoMemory> for Fail {
+    ghost from_gives = { λ _ fail. fail ≡ Memory };
+
+    fn from(_error: NoMemory) -> Fail {
+        Fail::Memory
+    }
 }
 
 /// What the number of an overflow counts.

@@ -1,0 +1,5 @@
+pub mod LineCuts
+pub mod Digits
+pub mod NumberLaws
+pub mod WordCuts
+mod Checks
