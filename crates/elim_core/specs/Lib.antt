@@ -1,0 +1,4 @@
+pub mod Gcd
+pub mod Elimination
+pub mod RowLists
+pub mod Causes
