@@ -1,13 +1,14 @@
 -- What the loops over rows and entries have found.
-use Rattle.std.proofs.Common.{◌≡◌, refl, ap, sym, subst, ◌∙◌, inl, inr, ℕ, zero, suc, ◌+◌, ◌<◌, ◌≤◌, List, [], ◌∷◌, ◌++◌, length, take, drop, get_or, arith, add-one, append_assoc}
-use Rattle.std.specs.Prelude.{Bool, true, false, cond, ◌⊎◌, Option, Some, None, int_le, ℤ, pos, negsuc, ◌-ℤ◌}
+use Rattle.std.proofs.Common.{◌≡◌, refl, ap, sym, subst, ◌∙◌, inl, inr, ℕ, zero, suc, ◌+◌, ◌-◌, ◌*◌, ◌<◌, ◌≤◌, List, [], ◌∷◌, ◌++◌, length, take, drop, get_or, arith, add-one, append_assoc}
+use Rattle.std.specs.Prelude.{Bool, true, false, cond, ◌⊎◌, Option, Some, None, int_le, int_lt, ℤ, pos, negsuc, ◌-ℤ◌}
 use Rattle.std.proofs.lemmas.Int.{ints}
-use Rattle.std.proofs.lemmas.List.{take-append-drop}
+use Rattle.std.proofs.lemmas.List.{take-append-drop, length-append}
 use Rattle.row_core.specs.Rows.{entry}
 use Rattle.relation_core.specs.declared.part_rows.PartRow.{PartRow}
 use Rattle.relation_core.specs.Systems.{row_at}
-use Rattle.elim_core.specs.Elimination.{is_zero, same_cells, last_variable, alike, admitted}
-use Rattle.elim_core.proofs.Tests.{by_bool, zero_test, same_cells_is, both_of_cond}
+use Rattle.elim_core.specs.Elimination.{is_zero, is_equal, same_cells, last_variable, alike, admitted, first_equality, without_equality, flat_rows, against, crossed, projected}
+use Rattle.elim_core.specs.RowLists.{positives, negatives}
+use Rattle.elim_core.proofs.Tests.{by_bool, zero_is, zero_test, nonzero_is, same_cells_is, both_of_cond, is_less, not_less}
 
 pub last_zero : (k m : ℕ) (cells : List ℤ) → k ≡ m + 1 → is_zero (entry cells m) ≡ true → last_variable k cells ≡ last_variable m cells
 last_zero zero m cells e z = absurd (omega arith)
@@ -64,3 +65,54 @@ found_alike n kept w k l a e =
         rw t (sym f ∙ (ap (λ s. take k kept ++ s) (sym d) ∙ take-append-drop k kept))
     | inr t ↦ let f : take k kept ++ (drop (suc k) kept ++ (w ∷ [])) ≡ admitted n kept w = rw (d, a, t) at e in
         rw t (sym f ∙ sym (append_assoc (take k kept) (drop (suc k) kept) (w ∷ []))) ]
+
+-- what a found equality is
+pub record FoundEquality (rows : List PartRow) (k : ℕ) : Type 0 where
+  pub first : first_equality rows ≡ Some (row_at rows k)
+  pub rest : without_equality rows ≡ take k rows ++ drop (suc k) rows
+
+pub found_equality : (rows : List PartRow) (k : ℕ) → k < length rows → is_equal (row_at rows k).kind ≡ true
+  → first_equality (drop k rows) ≡ first_equality rows → take k rows ++ without_equality (drop k rows) ≡ without_equality rows → FoundEquality rows k
+found_equality rows k l e f w =
+  let d = row_first rows k l in
+  let f2 : Some (row_at rows k) ≡ first_equality rows = rw (d, e) at f in
+  let w2 : take k rows ++ drop (suc k) rows ≡ without_equality rows = rw (d, e) at w in
+  record { first = sym f2; rest = sym w2 }
+
+length_against : (j : ℕ) (p : PartRow) (ws : List PartRow) → length (against j p ws) ≡ negatives j ws
+length_against j p [] = refl
+length_against j p (q ∷ ws) = elim (by_bool (int_lt (entry q.entries j) (pos 0))) [
+    inl e ↦ rw e (omega (arith, length_against j p ws))
+  | inr e ↦ rw e (length_against j p ws) ]
+
+add_times : (a b : ℕ) → (a + 1) * b ≡ a * b + b
+add_times a b = grind arith
+
+length_crossed : (j : ℕ) (ps ws : List PartRow) → length (crossed j ps ws) ≡ positives j ps * negatives j ws
+length_crossed j [] ws = omega arith
+length_crossed j (p ∷ ps) ws = elim (by_bool (int_lt (pos 0) (entry p.entries j))) [
+    inl e ↦ rw e (omega (arith, length-append (against j p ws) (crossed j ps ws), length_against j p ws, length_crossed j ps ws, add_times (positives j ps) (negatives j ws)))
+  | inr e ↦ rw e (length_crossed j ps ws) ]
+
+length_flat : (j : ℕ) (ws : List PartRow) → length (flat_rows j ws) + positives j ws + negatives j ws ≡ length ws
+length_flat j [] = refl
+length_flat j (w ∷ ws) = elim (by_bool (is_zero (entry w.entries j))) [
+    inl e ↦ let z = zero_is (entry w.entries j) e in
+      let a : int_lt (pos 0) (entry w.entries j) ≡ false = not_less (pos 0) (entry w.entries j) (omega (arith, ints)) in
+      let b : int_lt (entry w.entries j) (pos 0) ≡ false = not_less (entry w.entries j) (pos 0) (omega (arith, ints)) in
+      rw (e, a, b) (omega (arith, length_flat j ws))
+  | inr e ↦ elim (nonzero_is (entry w.entries j) e) [
+      inl l ↦
+        let a : int_lt (pos 0) (entry w.entries j) ≡ false = not_less (pos 0) (entry w.entries j) (omega (arith, ints)) in
+        let b : int_lt (entry w.entries j) (pos 0) ≡ true = is_less (entry w.entries j) (pos 0) l in
+        rw (e, a, b) (omega (arith, length_flat j ws))
+    | inr l ↦
+        let a : int_lt (pos 0) (entry w.entries j) ≡ true = is_less (pos 0) (entry w.entries j) l in
+        let b : int_lt (entry w.entries j) (pos 0) ≡ false = not_less (entry w.entries j) (pos 0) (omega (arith, ints)) in
+        rw (e, a, b) (omega (arith, length_flat j ws)) ] ]
+
+-- the number of rows of a projection, from the signs of the column's entries
+pub projected_count : (j : ℕ) (ws : List PartRow) (rising falling : ℕ) → rising ≡ positives j ws → falling ≡ negatives j ws
+  → (length ws - rising - falling) + rising * falling ≡ length (projected j ws)
+projected_count j ws rising falling a b = rw (a, b)
+  (omega (arith, length-append (flat_rows j ws) (crossed j ws ws), length_crossed j ws ws, length_flat j ws))

@@ -11,3 +11,6 @@ pub mod Started
 pub mod Lengths
 pub mod Whole
 pub mod CodeSteps
+pub mod Widths
+pub mod Leads
+pub mod ColumnOrder

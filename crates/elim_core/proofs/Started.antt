@@ -65,7 +65,7 @@ allowed_for_unit : (kind : RowKind) (before : List PartRow) (entries : List ℤ)
 allowed_for_unit Equal before entries after j e = free_unit before (record { kind = Equal; entries = entries }) after j e tt
 allowed_for_unit AtLeast before entries after j e = allowed_unit before (record { kind = AtLeast; entries = entries }) after j e
 
-length_unit : (i m : ℕ) → i < m → length (unit i m) ≡ m
+pub length_unit : (i m : ℕ) → i < m → length (unit i m) ≡ m
 length_unit i m l = omega (arith, length-append (replicate i (pos 0)) (pos 1 ∷ replicate (m - i - 1) (pos 0)), length-replicate i (pos 0), length-replicate (m - i - 1) (pos 0))
 
 started_row : (n : ℕ) (before : List PartRow) (r : PartRow) (after : List PartRow) → length r.entries ≡ n + 1

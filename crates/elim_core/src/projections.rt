@@ -17,6 +17,7 @@ use suite_base::NoMemory;
 const MAX_ROWS: usize = 16_384;
 
 /// The rows without column `j`, then each crossing of a positive with a negative row, in order.
+#[tactic(auto, using(crate::proofs::Widths::wide_projected))]
 pub fn project<R: Row>(
     alloc: Global,
     j: usize,
@@ -26,6 +27,7 @@ pub fn project<R: Row>(
     requires place { j < width }
     requires wide { AllRows (Wide width) rows.items }
     ensures ok { IfOk result (λ made. made.items ≡ projected j rows.items) }
+    ensures wide { AllRows (Wide width) (projected j rows.items) }
     ensures overflow { IfErr result (λ fail. fail ≡ ElimFail.Overflow → 2 ^ 127 ≤ crossed_weight j rows.items rows.items) }
     ensures rows { IfErr result (λ fail. fail ≡ ElimFail.TooManyRows → 16384 < length (projected j rows.items)) }
 {

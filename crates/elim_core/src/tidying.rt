@@ -27,6 +27,7 @@ pub fn find_contradiction<R: Row>(n: usize, width: usize, rows: &[WorkingRow<R>]
 }
 
 /// Of rows of `width` entries and `n` variables, those that have variables, pruned.
+#[tactic(auto, using(crate::proofs::Widths::wide_tidied))]
 pub fn tidy<R: Row>(
     alloc: Global,
     n: usize,
@@ -35,7 +36,8 @@ pub fn tidy<R: Row>(
 ) -> Result<Vec<WorkingRow<R>>, NoMemory>
     requires fits { n < width }
     requires wide { AllRows (Wide width) rows.items }
-    ensures { IfOk result (λ kept. kept.items ≡ tidied n rows.items) }
+    ensures rows { IfOk result (λ kept. kept.items ≡ tidied n rows.items) }
+    ensures wide { AllRows (Wide width) (tidied n rows.items) }
 {
     let mut kept = Vec::new(alloc);
     for w in rows {
