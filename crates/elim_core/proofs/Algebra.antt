@@ -1,10 +1,10 @@
 -- Sums, multiples and combinations of rows, entry by entry and part by part.
-use Rattle.std.proofs.Common.{◌≡◌, refl, ap, sym, ◌∙◌, inl, inr, ℕ, zero, suc, ◌+◌, ◌<◌, ◌≤◌, List, [], ◌∷◌, ◌++◌, length, take, drop, arith}
-use Rattle.std.specs.Prelude.{ℤ, pos, negsuc, ◌+ℤ◌, ◌*ℤ◌, neg_ℤ, ◌≤ℤ◌, ◌<ℤ◌, map}
+use Rattle.std.proofs.Common.{◌≡◌, refl, ap, sym, ◌∙◌, ℕ, zero, suc, List, [], ◌∷◌, length, drop, arith}
+use Rattle.std.specs.Prelude.{ℤ, negsuc, ◌+ℤ◌, ◌*ℤ◌, neg_ℤ, map}
 use Rattle.std.proofs.lemmas.Int.{ints}
 use Rattle.row_core.proofs.Ring.{add_mul_z, mul_assoc_z, mul_add_z}
 use Rattle.row_core.proofs.Rows.{combined_is}
-use Rattle.row_core.specs.Rows.{entry, dot, add_rows, scale, combined}
+use Rattle.row_core.specs.Rows.{entry, add_rows, scale, combined}
 use Rattle.relation_core.specs.declared.part_rows.PartRow.{PartRow}
 use Rattle.relation_core.specs.Points.{column}
 use Rattle.farkas_cert.proofs.Laws.{entry_add, entry_scale}

@@ -1,9 +1,9 @@
 -- The multipliers of a working row: the row is the combination of the system's rows by them, and
 -- they are allowed. So a contradiction carries a valid certificate.
-use Rattle.std.proofs.Common.{◌≡◌, refl, ap, sym, subst, ◌∙◌, inl, inr, ℕ, zero, suc, ◌+◌, ◌-◌, ◌<◌, ◌≤◌, List, [], ◌∷◌, ◌++◌, length, take, drop, replicate, arith}
-use Rattle.std.specs.Prelude.{Bool, true, false, cond, ◌⊎◌, int_lt, ℤ, pos, negsuc, ◌+ℤ◌, ◌*ℤ◌, neg_ℤ, ◌≤ℤ◌, ◌<ℤ◌, unsigned_abs}
+use Rattle.std.proofs.Common.{◌≡◌, ap, sym, subst, ◌∙◌, inl, inr, ℕ, ◌+◌, ◌<◌, ◌≤◌, List, [], ◌∷◌, length, drop, arith}
+use Rattle.std.specs.Prelude.{true, false, int_lt, ℤ, pos, negsuc, ◌+ℤ◌, ◌*ℤ◌, ◌≤ℤ◌, ◌<ℤ◌, unsigned_abs}
 use Rattle.std.proofs.lemmas.Int.{ints}
-use Rattle.row_core.proofs.Ring.{mul_nonneg_z, cancel_z, neg_mul_z}
+use Rattle.row_core.proofs.Ring.{mul_nonneg_z, cancel_z}
 use Rattle.row_core.specs.Rows.{entry, add_rows, scale, combined}
 use Rattle.relation_core.specs.declared.part_rows.PartRow.{PartRow}
 use Rattle.relation_core.specs.declared.part_rows.RowKind.{RowKind}
@@ -12,12 +12,10 @@ use Rattle.relation_core.specs.Points.{column}
 use Rattle.farkas_cert.specs.Certificates.{AllowedOne, Allowed, Valid}
 use Rattle.farkas_cert.proofs.Laws.{entry_scale}
 use Rattle.elim_core.specs.Gcd.{divided}
-use Rattle.elim_core.specs.Elimination.{is_zero, all_zero, is_constant, is_contradiction, fails, certificate_of, crossing, substituted_row, turned, is_equal, tidied, projected, substituted, without_equality}
-use Rattle.elim_core.proofs.Tests.{by_bool, zero_is, nonzero_is, all_zero_is, first_of_cond, second_of_cond, not_less}
-use Rattle.elim_core.proofs.Quotients.{IsMultiple, divided_is, length_divided}
-use Rattle.elim_core.proofs.Algebra.{entry_combined, length_combined, length_scale, drop_scale, drop_combined, column_add, column_scale, negated_is}
-use Rattle.elim_core.specs.RowLists.{AllRows, Wide}
-use Rattle.elim_core.proofs.AllRows.{all_tidied, all_projected, all_substituted, all_without_equality}
+use Rattle.elim_core.specs.Elimination.{is_zero, is_constant, is_contradiction, fails, certificate_of, crossing, substituted_row, turned, is_equal}
+use Rattle.elim_core.proofs.Tests.{by_bool, nonzero_is, all_zero_is, first_of_cond, second_of_cond, not_less}
+use Rattle.elim_core.proofs.Quotients.{divided_is, length_divided}
+use Rattle.elim_core.proofs.Algebra.{entry_combined, length_combined, drop_scale, drop_combined, column_add, column_scale, negated_is}
 
 -- a multiplier that stays allowed under every factor
 abbrev pub FreeOne : RowKind → ℤ → Type 0
@@ -100,9 +98,9 @@ allowed_unscale (r ∷ rows) c (l ∷ ls) p f = (allowed_one_unscale r.kind c l 
 
 pub cancel_zero : (c l : ℤ) → pos 0 <ℤ c → c *ℤ l ≡ pos 0 → l ≡ pos 0
 cancel_zero c l p e =
-  let a : pos 0 ≤ℤ l = cancel_z c (pos 0) l p (omega (arith, ints)) in
-  let b : l ≤ℤ pos 0 = cancel_z c l (pos 0) p (omega (arith, ints)) in
-  omega (arith, ints)
+    let a : pos 0 ≤ℤ l = cancel_z c (pos 0) l p (omega (arith, ints)) in
+    let b : l ≤ℤ pos 0 = cancel_z c l (pos 0) p (omega (arith, ints)) in
+    omega (arith, ints)
 
 free_one_unscale : (kind : RowKind) (c l : ℤ) → pos 0 <ℤ c → FreeOne kind (c *ℤ l) → FreeOne kind l
 free_one_unscale Equal c l p f = tt
@@ -129,41 +127,41 @@ Derived n rows w = IsDerived n rows w.kind w.entries
 
 pub divided_derived : (n : ℕ) (rows : List PartRow) (kind : RowKind) (cells : List ℤ) → IsDerived n rows kind cells → IsDerived n rows kind (divided cells)
 divided_derived n rows kind cells d =
-  let m = divided_is cells in
-  let parts : scale m.factor (drop (n + 1) (divided cells)) ≡ drop (n + 1) cells = sym (drop_scale (n + 1) m.factor (divided cells)) ∙ ap (λ t. drop (n + 1) t) m.times in
-  record {
-    width = length_divided cells ∙ d.width;
-    combines = λ k l.
-      let e1 : m.factor *ℤ entry (divided cells) k ≡ entry cells k = sym (entry_scale m.factor (divided cells) k) ∙ ap (λ t. entry t k) m.times in
-      let e2 : m.factor *ℤ column (drop (n + 1) (divided cells)) rows k ≡ column (drop (n + 1) cells) rows k = sym (column_scale m.factor (drop (n + 1) (divided cells)) rows k) ∙ ap (λ t. column t rows k) parts in
-      let e3 : entry cells k ≡ column (drop (n + 1) cells) rows k = d.combines k l in
-      let p : pos 0 <ℤ m.factor = m.positive in
-      let a : entry (divided cells) k ≤ℤ column (drop (n + 1) (divided cells)) rows k = cancel_z m.factor (entry (divided cells) k) (column (drop (n + 1) (divided cells)) rows k) p (omega (arith, ints)) in
-      let b : column (drop (n + 1) (divided cells)) rows k ≤ℤ entry (divided cells) k = cancel_z m.factor (column (drop (n + 1) (divided cells)) rows k) (entry (divided cells) k) p (omega (arith, ints)) in
-      omega (arith, ints);
-    allowed = allowed_for_unscale kind rows m.factor (drop (n + 1) (divided cells)) m.positive (subst (AllowedFor kind rows) (sym parts) d.allowed)
-  }
+    let m = divided_is cells in
+    let parts : scale m.factor (drop (n + 1) (divided cells)) ≡ drop (n + 1) cells = sym (drop_scale (n + 1) m.factor (divided cells)) ∙ ap (λ t. drop (n + 1) t) m.times in
+    record {
+      width = length_divided cells ∙ d.width;
+      combines = λ k l.
+          let e1 : m.factor *ℤ entry (divided cells) k ≡ entry cells k = sym (entry_scale m.factor (divided cells) k) ∙ ap (λ t. entry t k) m.times in
+          let e2 : m.factor *ℤ column (drop (n + 1) (divided cells)) rows k ≡ column (drop (n + 1) cells) rows k = sym (column_scale m.factor (drop (n + 1) (divided cells)) rows k) ∙ ap (λ t. column t rows k) parts in
+          let e3 : entry cells k ≡ column (drop (n + 1) cells) rows k = d.combines k l in
+          let p : pos 0 <ℤ m.factor = m.positive in
+          let a : entry (divided cells) k ≤ℤ column (drop (n + 1) (divided cells)) rows k = cancel_z m.factor (entry (divided cells) k) (column (drop (n + 1) (divided cells)) rows k) p (omega (arith, ints)) in
+          let b : column (drop (n + 1) (divided cells)) rows k ≤ℤ entry (divided cells) k = cancel_z m.factor (column (drop (n + 1) (divided cells)) rows k) (entry (divided cells) k) p (omega (arith, ints)) in
+          omega (arith, ints);
+      allowed = allowed_for_unscale kind rows m.factor (drop (n + 1) (divided cells)) m.positive (subst (AllowedFor kind rows) (sym parts) d.allowed);
+    }
 
 -- the multipliers of p a + q b, where they stay allowed
 combined_derived : (n : ℕ) (rows : List PartRow) (kind kind_a kind_b : RowKind) (p : ℤ) (a : List ℤ) (q : ℤ) (b : List ℤ)
-  → IsDerived n rows kind_a a → IsDerived n rows kind_b b
-  → AllowedFor kind rows (add_rows (scale p (drop (n + 1) a)) (scale q (drop (n + 1) b)))
-  → IsDerived n rows kind (combined p a q b)
+    → IsDerived n rows kind_a a → IsDerived n rows kind_b b
+    → AllowedFor kind rows (add_rows (scale p (drop (n + 1) a)) (scale q (drop (n + 1) b)))
+    → IsDerived n rows kind (combined p a q b)
 combined_derived n rows kind kind_a kind_b p a q b da db f =
-  let l : length a ≡ length b = da.width ∙ sym db.width in
-  record {
-    width = length_combined p a q b l ∙ da.width;
-    combines = λ k i.
-      let e1 = entry_combined p a q b k l in
-      let e2 : column (drop (n + 1) (combined p a q b)) rows k ≡ column (add_rows (scale p (drop (n + 1) a)) (scale q (drop (n + 1) b))) rows k = ap (λ t. column t rows k) (drop_combined (n + 1) p a q b l) in
-      let e3 = column_add (scale p (drop (n + 1) a)) (scale q (drop (n + 1) b)) rows k in
-      let e4 = column_scale p (drop (n + 1) a) rows k in
-      let e5 = column_scale q (drop (n + 1) b) rows k in
-      let e6 : p *ℤ entry a k ≡ p *ℤ column (drop (n + 1) a) rows k = ap (λ t. p *ℤ t) (da.combines k i) in
-      let e7 : q *ℤ entry b k ≡ q *ℤ column (drop (n + 1) b) rows k = ap (λ t. q *ℤ t) (db.combines k i) in
-      omega (arith, ints);
-    allowed = subst (AllowedFor kind rows) (sym (drop_combined (n + 1) p a q b l)) f
-  }
+    let l : length a ≡ length b = da.width ∙ sym db.width in
+    record {
+      width = length_combined p a q b l ∙ da.width;
+      combines = λ k i.
+          let e1 = entry_combined p a q b k l in
+          let e2 : column (drop (n + 1) (combined p a q b)) rows k ≡ column (add_rows (scale p (drop (n + 1) a)) (scale q (drop (n + 1) b))) rows k = ap (λ t. column t rows k) (drop_combined (n + 1) p a q b l) in
+          let e3 = column_add (scale p (drop (n + 1) a)) (scale q (drop (n + 1) b)) rows k in
+          let e4 = column_scale p (drop (n + 1) a) rows k in
+          let e5 = column_scale q (drop (n + 1) b) rows k in
+          let e6 : p *ℤ entry a k ≡ p *ℤ column (drop (n + 1) a) rows k = ap (λ t. p *ℤ t) (da.combines k i) in
+          let e7 : q *ℤ entry b k ≡ q *ℤ column (drop (n + 1) b) rows k = ap (λ t. q *ℤ t) (db.combines k i) in
+          omega (arith, ints);
+      allowed = subst (AllowedFor kind rows) (sym (drop_combined (n + 1) p a q b l)) f;
+    }
 
 -- an inequality's and an equality's multipliers are allowed for an inequality
 allowed_of : (kind : RowKind) (rows : List PartRow) (ls : List ℤ) → AllowedFor kind rows ls → Allowed rows ls
@@ -172,13 +170,13 @@ allowed_of AtLeast rows ls f = f
 
 pub crossing_derived : (n : ℕ) (rows : List PartRow) (j : ℕ) (p q : PartRow) → Derived n rows p → Derived n rows q → int_lt (pos 0) (entry p.entries j) ≡ true → int_lt (entry q.entries j) (pos 0) ≡ true → Derived n rows (crossing j p q)
 crossing_derived n rows j p q dp dq lp lq =
-  let np : pos 0 ≤ℤ entry p.entries j = omega (arith, ints) in
-  let nq : pos 0 ≤ℤ pos (unsigned_abs (entry q.entries j)) = omega (arith, ints) in
-  divided_derived n rows AtLeast (combined (pos (unsigned_abs (entry q.entries j))) p.entries (entry p.entries j) q.entries)
+    let np : pos 0 ≤ℤ entry p.entries j = omega (arith, ints) in
+    let nq : pos 0 ≤ℤ pos (unsigned_abs (entry q.entries j)) = omega (arith, ints) in
+    divided_derived n rows AtLeast (combined (pos (unsigned_abs (entry q.entries j))) p.entries (entry p.entries j) q.entries)
     (combined_derived n rows AtLeast p.kind q.kind (pos (unsigned_abs (entry q.entries j))) p.entries (entry p.entries j) q.entries dp dq
-      (allowed_add rows (scale (pos (unsigned_abs (entry q.entries j))) (drop (n + 1) p.entries)) (scale (entry p.entries j) (drop (n + 1) q.entries))
-        (allowed_scale rows (pos (unsigned_abs (entry q.entries j))) (drop (n + 1) p.entries) nq (allowed_of p.kind rows (drop (n + 1) p.entries) dp.allowed))
-        (allowed_scale rows (entry p.entries j) (drop (n + 1) q.entries) np (allowed_of q.kind rows (drop (n + 1) q.entries) dq.allowed))))
+    (allowed_add rows (scale (pos (unsigned_abs (entry q.entries j))) (drop (n + 1) p.entries)) (scale (entry p.entries j) (drop (n + 1) q.entries))
+    (allowed_scale rows (pos (unsigned_abs (entry q.entries j))) (drop (n + 1) p.entries) nq (allowed_of p.kind rows (drop (n + 1) p.entries) dp.allowed))
+    (allowed_scale rows (entry p.entries j) (drop (n + 1) q.entries) np (allowed_of q.kind rows (drop (n + 1) q.entries) dq.allowed))))
 
 -- an equality may be added with any factor
 plus_equality : (kind : RowKind) (rows : List PartRow) (s : ℤ) (ls : List ℤ) (t : ℤ) (ms : List ℤ) → pos 0 ≤ℤ s → AllowedFor kind rows ls → Free rows ms → AllowedFor kind rows (add_rows (scale s ls) (scale t ms))
@@ -190,51 +188,57 @@ free_of Equal rows ls e f = f
 free_of AtLeast rows ls e f = cc
 
 substituted_whole : (n : ℕ) (rows : List PartRow) (j : ℕ) (e : PartRow) → Derived n rows e → is_equal e.kind ≡ true → (w : PartRow) → Derived n rows w
-  → IsDerived n rows w.kind (divided (combined (pos (unsigned_abs (entry e.entries j))) w.entries (turned (entry e.entries j) (entry w.entries j)) e.entries))
+    → IsDerived n rows w.kind (divided (combined (pos (unsigned_abs (entry e.entries j))) w.entries (turned (entry e.entries j) (entry w.entries j)) e.entries))
 substituted_whole n rows j e de k w dw =
-  let s : ℤ = pos (unsigned_abs (entry e.entries j)) in
-  let t : ℤ = turned (entry e.entries j) (entry w.entries j) in
-  let p : pos 0 ≤ℤ pos (unsigned_abs (entry e.entries j)) = omega (arith, ints) in
-  divided_derived n rows w.kind (combined s w.entries t e.entries)
+    let s : ℤ = pos (unsigned_abs (entry e.entries j)) in
+    let t : ℤ = turned (entry e.entries j) (entry w.entries j) in
+    let p : pos 0 ≤ℤ pos (unsigned_abs (entry e.entries j)) = omega (arith, ints) in
+    divided_derived n rows w.kind (combined s w.entries t e.entries)
     (combined_derived n rows w.kind w.kind e.kind s w.entries t e.entries dw de
-      (plus_equality w.kind rows s (drop (n + 1) w.entries) t (drop (n + 1) e.entries) p dw.allowed (free_of e.kind rows (drop (n + 1) e.entries) k de.allowed)))
+    (plus_equality w.kind rows s (drop (n + 1) w.entries) t (drop (n + 1) e.entries) p dw.allowed (free_of e.kind rows (drop (n + 1) e.entries) k de.allowed)))
 
 pub substituted_derived : (n : ℕ) (rows : List PartRow) (j : ℕ) (e : PartRow) → Derived n rows e → is_equal e.kind ≡ true → (w : PartRow) → Derived n rows w → Derived n rows (substituted_row j e w)
 substituted_derived n rows j e de k w dw = elim (by_bool (is_zero (entry w.entries j))) [
-    inl z ↦ rw z dw
-  | inr z ↦ rw z (substituted_whole n rows j e de k w dw) ]
+  | inl z ↦ rw z dw
+  | inr z ↦ rw z (substituted_whole n rows j e de k w dw)
+]
 
 -- a contradiction's multipliers, turned where an equality needs it, are a valid certificate
 straight : (n : ℕ) (rows : List PartRow) (kind : RowKind) (cells : List ℤ) → IsDerived n rows kind cells → ((k : ℕ) → k < n → entry cells k ≡ pos 0) → entry cells n <ℤ pos 0 → Valid n rows (drop (n + 1) cells)
 straight n rows kind cells d z l = record {
   allowed = allowed_of kind rows (drop (n + 1) cells) d.allowed;
   cleared = λ k i. let h : k ≤ n = omega arith in sym (d.combines k h) ∙ z k i;
-  contradicts = let e = d.combines n (omega arith) in omega (arith, ints) }
+  contradicts = let e = d.combines n (omega arith) in omega (arith, ints);
+}
 
 reversed : (n : ℕ) (rows : List PartRow) (cells : List ℤ) → IsDerived n rows Equal cells → ((k : ℕ) → k < n → entry cells k ≡ pos 0) → pos 0 <ℤ entry cells n → Valid n rows (scale (negsuc 0) (drop (n + 1) cells))
 reversed n rows cells d z l = record {
   allowed = free_allowed rows (scale (negsuc 0) (drop (n + 1) cells)) (free_scale rows (negsuc 0) (drop (n + 1) cells) d.allowed);
   cleared = λ k i.
-    let h : k ≤ n = omega arith in
-    let e : column (drop (n + 1) cells) rows k ≡ pos 0 = sym (d.combines k h) ∙ z k i in
-    column_scale (negsuc 0) (drop (n + 1) cells) rows k ∙ ap (λ t. negsuc 0 *ℤ t) e;
-  contradicts = let e = d.combines n (omega arith) in let f = column_scale (negsuc 0) (drop (n + 1) cells) rows n in omega (arith, ints) }
+      let h : k ≤ n = omega arith in
+      let e : column (drop (n + 1) cells) rows k ≡ pos 0 = sym (d.combines k h) ∙ z k i in
+      column_scale (negsuc 0) (drop (n + 1) cells) rows k ∙ ap (λ t. negsuc 0 *ℤ t) e;
+  contradicts = let e = d.combines n (omega arith) in let f = column_scale (negsuc 0) (drop (n + 1) cells) rows n in omega (arith, ints);
+}
 
 certificate_by_kind : (n : ℕ) (rows : List PartRow) (kind : RowKind) (cells : List ℤ) → IsDerived n rows kind cells → ((k : ℕ) → k < n → entry cells k ≡ pos 0) → fails kind (entry cells n) ≡ true → Valid n rows (certificate_of n (record { kind = kind; entries = cells }))
 certificate_by_kind n rows AtLeast cells d z f =
-  let l : entry cells n <ℤ pos 0 = omega (arith, ints) in
-  let e : int_lt (pos 0) (entry cells n) ≡ false = not_less (pos 0) (entry cells n) (omega (arith, ints)) in
-  rw e (straight n rows AtLeast cells d z l)
+    let l : entry cells n <ℤ pos 0 = omega (arith, ints) in
+    let e : int_lt (pos 0) (entry cells n) ≡ false = not_less (pos 0) (entry cells n) (omega (arith, ints)) in
+    rw e (straight n rows AtLeast cells d z l)
 certificate_by_kind n rows Equal cells d z f = elim (by_bool (int_lt (pos 0) (entry cells n))) [
-    inl e ↦ let l : pos 0 <ℤ entry cells n = omega (arith, ints) in rw (e, negated_is (drop (n + 1) cells)) (reversed n rows cells d z l)
+  | inl e ↦ let l : pos 0 <ℤ entry cells n = omega (arith, ints) in rw (e, negated_is (drop (n + 1) cells)) (reversed n rows cells d z l)
   | inr e ↦ elim (by_bool (is_zero (entry cells n))) [
-      inl y ↦ let g : false ≡ true = rw y at f in cc
+    | inl y ↦ let g : false ≡ true = rw y at f in cc
     | inr y ↦ elim (nonzero_is (entry cells n) y) [
-        inl l ↦ rw e (straight n rows Equal cells d z l)
-      | inr l ↦ absurd (omega (arith, ints)) ] ] ]
+      | inl l ↦ rw e (straight n rows Equal cells d z l)
+      | inr l ↦ absurd (omega (arith, ints))
+    ]
+  ]
+]
 
 pub contradiction_valid : (n : ℕ) (rows : List PartRow) (w : PartRow) → Derived n rows w → is_contradiction n w ≡ true → Valid n rows (certificate_of n w)
 contradiction_valid n rows w d c =
-  certificate_by_kind n rows w.kind w.entries d
+    certificate_by_kind n rows w.kind w.entries d
     (all_zero_is n w.entries (first_of_cond (is_constant n w) (fails w.kind (entry w.entries n)) c))
     (second_of_cond (is_constant n w) (fails w.kind (entry w.entries n)) c)

@@ -1,6 +1,6 @@
 -- One turn of the elimination: what is left to do ends as the whole does, and its peak is no higher.
-use Rattle.std.proofs.Common.{◌≡◌, refl, ap, sym, ◌∙◌, ℕ, zero, suc, ◌+◌, ◌≤◌, List, [], ◌∷◌, length, arith}
-use Rattle.std.specs.Prelude.{Option, Some, None, max, ℤ}
+use Rattle.std.proofs.Common.{◌≡◌, refl, ap, sym, ◌∙◌, ℕ, zero, suc, ◌+◌, ◌≤◌, List, ◌∷◌, length, arith}
+use Rattle.std.specs.Prelude.{Some, None, ℤ}
 use Rattle.relation_core.specs.declared.part_rows.PartRow.{PartRow}
 use Rattle.elim_core.specs.Elimination.{Elimination, after, refutation_of, projected, crossed_weight, tidied, first_equality, without, without_weight, from_columns, from_equalities, started, elimination}
 
@@ -30,18 +30,19 @@ column_count_within n j js ws = omega arith
 
 -- one equality
 equality_step : (n m : ℕ) (js : List ℕ) (e : PartRow) (ws : List PartRow) → first_equality ws ≡ Some e → refutation_of n (without n e ws) ≡ None
-  → from_equalities n js (suc m) ws ≡ after (without_weight n e ws) 0 (from_equalities n js m (tidied n (without n e ws)))
+    → from_equalities n js (suc m) ws ≡ after (without_weight n e ws) 0 (from_equalities n js m (tidied n (without n e ws)))
 equality_step n m js e ws f r = rw (f, from_equalities) (rw r refl)
 
 pub equality_leads : (n m k : ℕ) (js : List ℕ) (e : PartRow) (ws : List PartRow) → m ≡ k + 1 → first_equality ws ≡ Some e → refutation_of n (without n e ws) ≡ None → Leads (from_equalities n js k (tidied n (without n e ws))) (from_equalities n js m ws)
 equality_leads n zero k js e ws l f r = absurd (omega arith)
 equality_leads n (suc m) k js e ws l f r =
-  let h : m ≡ k = omega arith in
-  let q = equality_step n m js e ws f r in
-  rw (← h) (record {
-    refutation = sym (ap (λ (t : Elimination). t.refutation) q);
-    weight = omega (arith, ap (λ (t : Elimination). t.weight) q);
-    count = omega (arith, ap (λ (t : Elimination). t.count) q) })
+    let h : m ≡ k = omega arith in
+    let q = equality_step n m js e ws f r in
+    rw (← h) (record {
+      refutation = sym (ap (λ (t : Elimination). t.refutation) q);
+      weight = omega (arith, ap (λ (t : Elimination). t.weight) q);
+      count = omega (arith, ap (λ (t : Elimination). t.count) q);
+    })
 
 pub equality_ends : (n m k : ℕ) (js : List ℕ) (e : PartRow) (ws : List PartRow) (c : List ℤ) → m ≡ k + 1 → first_equality ws ≡ Some e → refutation_of n (without n e ws) ≡ Some c → (from_equalities n js m ws).refutation ≡ Some c
 equality_ends n zero k js e ws c l f r = absurd (omega arith)

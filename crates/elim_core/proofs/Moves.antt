@@ -1,6 +1,6 @@
 -- A point of homogeneous coordinates made larger by a factor and moved along one column.
-use Rattle.std.proofs.Common.{◌≡◌, refl, ap, sym, ◌∙◌, inl, inr, ℕ, zero, suc, ◌+◌, ◌<◌, ◌≤◌, List, [], ◌∷◌, ◌++◌, length, take, drop, arith}
-use Rattle.std.specs.Prelude.{ℤ, pos, negsuc, ◌+ℤ◌, ◌*ℤ◌, neg_ℤ, ◌≤ℤ◌, ◌<ℤ◌}
+use Rattle.std.proofs.Common.{◌≡◌, refl, ap, ℕ, zero, suc, ◌<◌, List, [], ◌∷◌, ◌++◌, length, arith}
+use Rattle.std.specs.Prelude.{ℤ, ◌+ℤ◌, ◌*ℤ◌}
 use Rattle.std.proofs.lemmas.Int.{ints}
 use Rattle.row_core.proofs.Ring.{mul_add_z, mul_swap_z, mul_comm_z}
 use Rattle.row_core.specs.Rows.{entry, dot, scale}
@@ -23,8 +23,8 @@ dot_move s t zero [] (x ∷ v) l = omega (arith, ints)
 dot_move s t (suc j) [] (x ∷ v) l = omega (arith, ints)
 dot_move s t zero (c ∷ r) (x ∷ v) l = omega (arith, ints, dot_scaled_point s r v, mul_add_z c (s *ℤ x) t, mul_comm_z c t, mul_swap_z c s x, mul_add_z s (c *ℤ x) (dot r v))
 dot_move s t (suc j) (c ∷ r) (x ∷ v) l =
-  let k : j < length v = omega arith in
-  omega (arith, ints, dot_move s t j r v k, mul_swap_z c s x, mul_add_z s (c *ℤ x) (dot r v))
+    let k : j < length v = omega arith in
+    omega (arith, ints, dot_move s t j r v k, mul_swap_z c s x, mul_add_z s (c *ℤ x) (dot r v))
 
 scale_append : (s : ℤ) (x : List ℤ) (q : ℤ) → scale s (x ++ (q ∷ [])) ≡ scale s x ++ ((s *ℤ q) ∷ [])
 scale_append s [] q = refl

@@ -1,14 +1,14 @@
 -- The working rows with which the elimination begins.
-use Rattle.std.proofs.Common.{◌≡◌, refl, ap, sym, subst, ◌∙◌, inl, inr, ℕ, zero, suc, ◌+◌, ◌-◌, ◌<◌, ◌≤◌, List, [], ◌∷◌, ◌++◌, length, take, drop, replicate, get_or, arith, append_assoc}
-use Rattle.std.specs.Prelude.{ℤ, pos, negsuc, ◌+ℤ◌, ◌*ℤ◌, ◌≤ℤ◌}
+use Rattle.std.proofs.Common.{◌≡◌, refl, ap, sym, subst, ◌∙◌, ℕ, zero, suc, ◌+◌, ◌-◌, ◌<◌, List, [], ◌∷◌, ◌++◌, length, drop, replicate, arith, append_assoc}
+use Rattle.std.specs.Prelude.{ℤ, pos, ◌+ℤ◌, ◌*ℤ◌}
 use Rattle.std.proofs.lemmas.Int.{ints}
-use Rattle.std.proofs.lemmas.List.{length-append, length-replicate, drop-append-le, get_or_append_left}
+use Rattle.std.proofs.lemmas.List.{length-append, length-replicate, get_or_append_left}
 use Rattle.std.proofs.Math.Seq.{drop-append_seam}
 use Rattle.row_core.specs.Rows.{entry, dot}
 use Rattle.relation_core.specs.declared.part_rows.PartRow.{PartRow}
 use Rattle.relation_core.specs.declared.part_rows.RowKind.{RowKind}
 use Rattle.relation_core.specs.declared.part_rows.RowKind.TheVariants.{Equal, AtLeast}
-use Rattle.relation_core.specs.Points.{Meets, MeetsAll, RationalPoint, HasPoint, column}
+use Rattle.relation_core.specs.Points.{Meets, MeetsAll, HasPoint, column}
 use Rattle.relation_core.specs.Systems.{row_at}
 use Rattle.farkas_cert.specs.Certificates.{AllowedOne, Allowed}
 use Rattle.elim_core.specs.Elimination.{unit, started_from, started}
@@ -61,7 +61,7 @@ allowed_unit [] r after j e = (allowed_one r.kind, allowed_zeros after j e)
 allowed_unit (b ∷ before) r after j e = (allowed_zero b.kind, allowed_unit before r after j e)
 
 allowed_for_unit : (kind : RowKind) (before : List PartRow) (entries : List ℤ) (after : List PartRow) (j : ℕ) → j ≡ length after
-  → AllowedFor kind (before ++ ((record { kind = kind; entries = entries }) ∷ after)) (replicate (length before) (pos 0) ++ (pos 1 ∷ replicate j (pos 0)))
+    → AllowedFor kind (before ++ ((record { kind = kind; entries = entries }) ∷ after)) (replicate (length before) (pos 0) ++ (pos 1 ∷ replicate j (pos 0)))
 allowed_for_unit Equal before entries after j e = free_unit before (record { kind = Equal; entries = entries }) after j e tt
 allowed_for_unit AtLeast before entries after j e = allowed_unit before (record { kind = AtLeast; entries = entries }) after j e
 
@@ -69,29 +69,29 @@ pub length_unit : (i m : ℕ) → i < m → length (unit i m) ≡ m
 length_unit i m l = omega (arith, length-append (replicate i (pos 0)) (pos 1 ∷ replicate (m - i - 1) (pos 0)), length-replicate i (pos 0), length-replicate (m - i - 1) (pos 0))
 
 started_row : (n : ℕ) (before : List PartRow) (r : PartRow) (after : List PartRow) → length r.entries ≡ n + 1
-  → IsDerived n (before ++ (r ∷ after)) r.kind (r.entries ++ unit (length before) (length (before ++ (r ∷ after))))
+    → IsDerived n (before ++ (r ∷ after)) r.kind (r.entries ++ unit (length before) (length (before ++ (r ∷ after))))
 started_row n before r after w =
-  let m : length (before ++ (r ∷ after)) ≡ length before + 1 + length after = omega (arith, length-append before (r ∷ after)) in
-  let j : length (before ++ (r ∷ after)) - length before - 1 ≡ length after = omega arith in
-  let d : drop (n + 1) (r.entries ++ unit (length before) (length (before ++ (r ∷ after)))) ≡ unit (length before) (length (before ++ (r ∷ after)))
+    let m : length (before ++ (r ∷ after)) ≡ length before + 1 + length after = omega (arith, length-append before (r ∷ after)) in
+    let j : length (before ++ (r ∷ after)) - length before - 1 ≡ length after = omega arith in
+    let d : drop (n + 1) (r.entries ++ unit (length before) (length (before ++ (r ∷ after)))) ≡ unit (length before) (length (before ++ (r ∷ after)))
     = subst (λ (k : ℕ). drop k (r.entries ++ unit (length before) (length (before ++ (r ∷ after)))) ≡ unit (length before) (length (before ++ (r ∷ after)))) w (drop-append_seam r.entries (unit (length before) (length (before ++ (r ∷ after))))) in
-  record {
-    width = omega (arith, length-append r.entries (unit (length before) (length (before ++ (r ∷ after)))), length_unit (length before) (length (before ++ (r ∷ after))) (omega arith));
-    combines = λ k l.
-      let i : k < length r.entries = omega arith in
-      get_or_append_left r.entries (unit (length before) (length (before ++ (r ∷ after)))) (pos 0) k i
-        ∙ (sym (column_unit before r after (length (before ++ (r ∷ after)) - length before - 1) k)
-        ∙ ap (λ t. column t (before ++ (r ∷ after)) k) (sym d));
-    allowed = subst (AllowedFor r.kind (before ++ (r ∷ after))) (sym d) (allowed_for_unit r.kind before r.entries after (length (before ++ (r ∷ after)) - length before - 1) j)
-  }
+    record {
+      width = omega (arith, length-append r.entries (unit (length before) (length (before ++ (r ∷ after)))), length_unit (length before) (length (before ++ (r ∷ after))) (omega arith));
+      combines = λ k l.
+          let i : k < length r.entries = omega arith in
+          get_or_append_left r.entries (unit (length before) (length (before ++ (r ∷ after)))) (pos 0) k i
+          ∙ (sym (column_unit before r after (length (before ++ (r ∷ after)) - length before - 1) k)
+          ∙ ap (λ t. column t (before ++ (r ∷ after)) k) (sym d));
+      allowed = subst (AllowedFor r.kind (before ++ (r ∷ after))) (sym d) (allowed_for_unit r.kind before r.entries after (length (before ++ (r ∷ after)) - length before - 1) j);
+    }
 
 started_rows : (n : ℕ) (rows before after : List PartRow) (i : ℕ) → before ++ after ≡ rows → i ≡ length before → AllRows (Wide (n + 1)) after → AllRows (Derived n rows) (started_from (length rows) i after)
 started_rows n rows before [] i e f w = tt
 started_rows n rows before (r ∷ after) i e f w =
-  let h : IsDerived n (before ++ (r ∷ after)) r.kind (r.entries ++ unit (length before) (length (before ++ (r ∷ after)))) = started_row n before r after w.0 in
-  let g : IsDerived n rows r.kind (r.entries ++ unit (length before) (length rows)) = subst (λ (s : List PartRow). IsDerived n s r.kind (r.entries ++ unit (length before) (length s))) e h in
-  let k : IsDerived n rows r.kind (r.entries ++ unit i (length rows)) = subst (λ (t : ℕ). IsDerived n rows r.kind (r.entries ++ unit t (length rows))) (sym f) g in
-  (k, started_rows n rows (before ++ (r ∷ [])) after (i + 1) (append_assoc before (r ∷ []) after ∙ e) (omega (arith, length-append before (r ∷ []))) w.1)
+    let h : IsDerived n (before ++ (r ∷ after)) r.kind (r.entries ++ unit (length before) (length (before ++ (r ∷ after)))) = started_row n before r after w.0 in
+    let g : IsDerived n rows r.kind (r.entries ++ unit (length before) (length rows)) = subst (λ (s : List PartRow). IsDerived n s r.kind (r.entries ++ unit (length before) (length s))) e h in
+    let k : IsDerived n rows r.kind (r.entries ++ unit i (length rows)) = subst (λ (t : ℕ). IsDerived n rows r.kind (r.entries ++ unit t (length rows))) (sym f) g in
+    (k, started_rows n rows (before ++ (r ∷ [])) after (i + 1) (append_assoc before (r ∷ []) after ∙ e) (omega (arith, length-append before (r ∷ []))) w.1)
 
 pub started_derived : (n : ℕ) (rows : List PartRow) → AllRows (Wide (n + 1)) rows → AllRows (Derived n rows) (started rows)
 started_derived n rows h = started_rows n rows [] rows 0 refl refl h
@@ -111,10 +111,14 @@ dot_append (c ∷ a) u (x ∷ v) e = ap (λ n. (c *ℤ x) +ℤ n) (dot_append a 
 from_started_rows : (m i width : ℕ) (rows : List PartRow) (v : List ℤ) → length v ≡ width → AllRows (Wide width) rows → MeetsAll (started_from m i rows) v → MeetsAll rows v
 from_started_rows m i width [] v e w s = tt
 from_started_rows m i width (r ∷ rows) v e w s =
-  (subst (Meets r.kind) (dot_append r.entries (unit i m) v (e ∙ sym w.0)) s.0, from_started_rows m (i + 1) width rows v e w.1 s.1)
+    (subst (Meets r.kind) (dot_append r.entries (unit i m) v (e ∙ sym w.0)) s.0, from_started_rows m (i + 1) width rows v e w.1 s.1)
 
 pub from_started : (n : ℕ) (rows : List PartRow) → AllRows (Wide (n + 1)) rows → HasPoint n (started rows) → HasPoint n rows
 from_started n rows w h =
-  let e : length (h.at ++ (h.factor ∷ [])) ≡ n + 1 = omega (arith, h.length_is, length-append h.at (h.factor ∷ [])) in
-  record { at = h.at; factor = h.factor; length_is = h.length_is;
-    point = record { positive = h.point.positive; meets = from_started_rows (length rows) 0 (n + 1) rows (h.at ++ (h.factor ∷ [])) e w h.point.meets } }
+    let e : length (h.at ++ (h.factor ∷ [])) ≡ n + 1 = omega (arith, h.length_is, length-append h.at (h.factor ∷ [])) in
+    record {
+      at = h.at;
+      factor = h.factor;
+      length_is = h.length_is;
+      point = record { positive = h.point.positive; meets = from_started_rows (length rows) 0 (n + 1) rows (h.at ++ (h.factor ∷ [])) e w h.point.meets };
+    }

@@ -1,6 +1,6 @@
 -- What the tests of the elimination tell.
-use Rattle.std.proofs.Common.{◌≡◌, refl, ap, sym, ◌∙◌, subst, inl, inr, ℕ, zero, suc, ◌+◌, ◌<◌, ◌≤◌, List, [], ◌∷◌, length, take, arith}
-use Rattle.std.specs.Prelude.{Bool, true, false, cond, not, ◌⊎◌, nat_eq, int_lt, int_le, ℤ, pos, negsuc, ◌+ℤ◌, ◌-ℤ◌, ◌*ℤ◌, neg_ℤ, ◌≤ℤ◌, ◌<ℤ◌, unsigned_abs}
+use Rattle.std.proofs.Common.{◌≡◌, refl, ap, sym, ◌∙◌, inl, inr, ℕ, zero, suc, ◌<◌, List, [], ◌∷◌, take, arith}
+use Rattle.std.specs.Prelude.{Bool, true, false, cond, ◌⊎◌, int_lt, ℤ, pos, negsuc, ◌-ℤ◌, ◌≤ℤ◌, ◌<ℤ◌}
 use Rattle.std.proofs.lemmas.Int.{ints}
 use Rattle.std.proofs.lemmas.Bool.Decides.{nat_tests}
 use Rattle.row_core.specs.Rows.{entry}
@@ -50,22 +50,25 @@ same_cells_is [] [] e = refl
 same_cells_is [] (y ∷ b) e = cc
 same_cells_is (x ∷ a) [] e = cc
 same_cells_is (x ∷ a) (y ∷ b) e =
-  let z : x -ℤ y ≡ pos 0 = zero_is (x -ℤ y) (first_of_cond (is_zero (x -ℤ y)) (same_cells a b) e) in
-  let h : x ≡ y = omega (arith, ints) in
-  let t : a ≡ b = same_cells_is a b (second_of_cond (is_zero (x -ℤ y)) (same_cells a b) e) in
-  cc
+    let z : x -ℤ y ≡ pos 0 = zero_is (x -ℤ y) (first_of_cond (is_zero (x -ℤ y)) (same_cells a b) e) in
+    let h : x ≡ y = omega (arith, ints) in
+    let t : a ≡ b = same_cells_is a b (second_of_cond (is_zero (x -ℤ y)) (same_cells a b) e) in
+    cc
 
 pub not_less : (a b : ℤ) → b ≤ℤ a → int_lt a b ≡ false
 not_less a b l = elim (by_bool (int_lt a b)) [
-    inl e ↦ absurd (omega (arith, ints))
-  | inr e ↦ e ]
+  | inl e ↦ absurd (omega (arith, ints))
+  | inr e ↦ e
+]
 
 pub is_less : (a b : ℤ) → a <ℤ b → int_lt a b ≡ true
 is_less a b l = elim (by_bool (int_lt a b)) [
-    inl e ↦ e
-  | inr e ↦ absurd (omega (arith, ints)) ]
+  | inl e ↦ e
+  | inr e ↦ absurd (omega (arith, ints))
+]
 
 pub not_all_zero : (n : ℕ) (cells : List ℤ) (k : ℕ) → k < n → is_zero (entry cells k) ≡ false → all_zero (take n cells) ≡ false
 not_all_zero n cells k l z = elim (by_bool (all_zero (take n cells))) [
-    inl e ↦ let f : is_zero (entry cells k) ≡ true = zero_test (entry cells k) (all_zero_is n cells e k l) in let c : true ≡ false = sym f ∙ z in cc
-  | inr e ↦ e ]
+  | inl e ↦ let f : is_zero (entry cells k) ≡ true = zero_test (entry cells k) (all_zero_is n cells e k l) in let c : true ≡ false = sym f ∙ z in cc
+  | inr e ↦ e
+]

@@ -1,7 +1,7 @@
 -- The stated elimination: substitution of the equalities, then Fourier-Motzkin elimination of each
 -- column, over unbounded integers. A working row has the entries of a row of n variables, its
 -- constant at place n, and behind it one multiplier for each row of the system.
-use Rattle.std.specs.Prelude.{◌≡◌, ℕ, zero, suc, ◌+◌, ◌-◌, ◌<◌, ◌⊎◌, List, [], ◌∷◌, ◌++◌, Bool, true, false, not, cond, Option, Some, None, length, take, drop, map, max, replicate, nat_eq, int_lt, int_le, ℤ, pos, negsuc, ◌*ℤ◌, ◌-ℤ◌, neg_ℤ, unsigned_abs}
+use Rattle.std.specs.Prelude.{◌≡◌, ℕ, zero, suc, ◌+◌, ◌-◌, ◌<◌, ◌⊎◌, List, [], ◌∷◌, ◌++◌, Bool, true, false, not, cond, Option, Some, None, length, take, drop, map, max, replicate, nat_eq, int_lt, int_le, ℤ, pos, negsuc, ◌-ℤ◌, neg_ℤ, unsigned_abs}
 use Rattle.row_core.specs.Rows.{entry, combined, combined_weight}
 use Rattle.relation_core.specs.declared.part_rows.PartRow.{PartRow}
 use Rattle.relation_core.specs.declared.part_rows.RowKind.{RowKind}

@@ -3,9 +3,9 @@
 ghost use Rattle.std.specs.Prelude.{◌≡◌, ◌<◌, ◌≤◌, ◌+◌, ◌^◌, length, Some, IfOk, IfErr};
 ghost use Rattle.relation_core.specs.Systems.{columns};
 ghost use Rattle.farkas_cert.specs.Certificates.{Valid};
-ghost use Rattle.elim_core.specs.Elimination.{started};
+ghost use Rattle.elim_core.specs.Elimination.{started, Below};
 ghost use Rattle.elim_core.specs.RowLists.{AllRows, Wide};
-ghost use Rattle.elim_core.specs.Peaks.{stated, peak, IsRight};
+ghost use Rattle.elim_core.specs.Peaks.{column_order, stated, peak, IsRight};
 
 use crate::orders::column_order;
 use crate::phases::from_equalities;
@@ -82,6 +82,7 @@ fn eliminate<R: Row>(alloc: Global, system: &Part) -> Result<Option<Certificate>
 fn variable_count(system: &Part) -> usize
     ensures value { result ≡ columns system.now.shape }
     ensures range { result ≤ 262144 }
+    ensures order { Below (columns system.now.shape) (column_order system.now.shape) }
 {
     let _limits = system.shape();
     system.width() - 1

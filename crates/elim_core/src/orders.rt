@@ -1,8 +1,6 @@
 //! The order in which columns are projected.
 
 ghost use Rattle.std.specs.Prelude.{◌≡◌, ◌+◌, ◌≤◌, ◌^◌, ◌++◌, IfOk, OnOk};
-ghost use Rattle.relation_core.specs.Systems.{columns};
-ghost use Rattle.elim_core.specs.Elimination.{Below};
 ghost use Rattle.elim_core.specs.Peaks.{down, column_order};
 
 use relation_core::Part;
@@ -11,15 +9,18 @@ use suite_base::NoMemory;
 
 /// The columns of locals, inputs, outputs and parameters, each from its last.
 pub fn column_order(alloc: Global, system: &Part) -> Result<Vec<usize>, NoMemory>
-    ensures order { IfOk result (λ order. order.items ≡ column_order system.now.shape) }
-    ensures below { Below (columns system.now.shape) (column_order system.now.shape) }
+    ensures { IfOk result (λ order. order.items ≡ column_order system.now.shape) }
 {
     let shape = system.shape();
     let mut order = Vec::new(alloc);
     push_down(&mut order, shape.outputs + shape.inputs, shape.locals)?;
     push_down(&mut order, shape.outputs, shape.inputs)?;
     push_down(&mut order, 0, shape.outputs)?;
-    push_down(&mut order, shape.outputs + shape.inputs + shape.locals, shape.parameters)?;
+    push_down(
+        &mut order,
+        shape.outputs + shape.inputs + shape.locals,
+        shape.parameters,
+    )?;
     Ok(order)
 }
 

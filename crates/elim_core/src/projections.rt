@@ -149,5 +149,12 @@ fn cross<R: Row>(
     ensures overflow { IfErr result (λ fail. fail ≡ ElimFail.Overflow → 2 ^ 127 ≤ crossing_weight j p.now q.now) }
     ensures rows { IfErr result (λ fail. ¬ (fail ≡ ElimFail.TooManyRows)) }
 {
-    WorkingRow::combined(alloc, RowKind::AtLeast, absolute(q.entry(j)), p, p.entry(j), q)
+    WorkingRow::combined(
+        alloc,
+        RowKind::AtLeast,
+        absolute(q.entry(j)),
+        p,
+        p.entry(j),
+        q,
+    )
 }

@@ -106,7 +106,11 @@ pub fn is_contradiction<R: Row>(w: &WorkingRow<R>, n: usize) -> bool
     requires { n < length w.now.entries }
     ensures { result ≡ is_contradiction n w.now }
 {
-    if is_constant(w, n) { fails(w.kind(), w.entry(n)) } else { false }
+    if is_constant(w, n) {
+        fails(w.kind(), w.entry(n))
+    } else {
+        false
+    }
 }
 
 // Whether a row of this kind fails where its value is `c`.

@@ -12,6 +12,6 @@ loop-b-preserved c = record {
 
 pub returns-clause-value : goal.returns-clause-value
 returns-clause-value c =
-  same_from_IsGcd c.args.first c.args.second _ _
+    same_from_IsGcd c.args.first c.args.second _ _
     (c.loop-b.invariant.kept c.loop-b.a (IsGcd-from_zero c.loop-b.a c.loop-b.b (omega arith)))
     (gcd_is c.args.first c.args.second)

@@ -1,4 +1,4 @@
-use Rattle.std.proofs.Common.{◌≡◌, ◌≤◌, ◌+◌, drop, length}
+use Rattle.std.proofs.Common.{◌≡◌, ◌≤◌, ◌+◌, drop}
 use Rattle.elim_core.specs.RowLists.{AllRows, Wide, positives, negatives}
 use Rattle.elim_core.proofs.projections.is_too_many.Given as goal
 
