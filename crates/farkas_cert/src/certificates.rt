@@ -32,6 +32,11 @@ impl Certificate {
         }
     }
 
+    /// The allocator that the certificate keeps.
+    pub fn allocator(&self) -> Global {
+        self.multipliers.allocator()
+    }
+
     /// Appends a multiplier. On want of memory the certificate is as before.
     pub fn push(&mut self, multiplier: Coeff) -> Result<(), NoMemory>
         ensures ok { OnOk result (self.new ≡ self.old ++ multiplier ∷ []) }

@@ -4,6 +4,8 @@
 
 mod certificates;
 mod checks;
+mod texts;
 
 pub use certificates::Certificate;
 pub use checks::{TooHeavy, check, valid_means_empty};
+pub use texts::{print_cert, read_cert, reads_back};
