@@ -1,0 +1,53 @@
+-- Facts about the number of children in a dense tree.
+use Rattle.std.proofs.Common.{◌≡◌, ◌≢◌, ℕ, zero, suc, ◌+◌, ◌<◌, ◌≤◌, ◌==◌, Bool, true, false, cond, not, ◌&&◌, ◌||◌, ◌⊎◌, inl, inr, List, [], ◌∷◌, ◌++◌, length, map, max, refl, sym, ◌∙◌, ap, subst, arith, eq-eqb, ◌↔◌}
+use Rattle.std.proofs.lemmas.Bool.{eqb-true, eqb-false, ltb-true, ltb-false}
+use Rattle.std.proofs.lemmas.Cmp.{nat_eq_equiv}
+use Rattle.std.proofs.lemmas.Map.Made.{length-from_keys, distinct_count-le}
+use Rattle.std.proofs.lemmas.Map.Steps.{length-le_from_distinct_below, le-length_from_below}
+use Rattle.std.specs.List.{filter_map, list_any, range_with_len, IsDistinct}
+use Rattle.std.specs.Set.{distinct_count, unique_keys, is_member}
+use Rattle.std.proofs.Math.Dec.{eqb, ltb}
+use Rattle.beta_tree.proofs.Distinct.{member_from_In, In_from_member, member_of_unique, unique_distinct}
+use Rattle.beta_tree.specs.Vectors.{after, under, heads, In, IsDense, IsTree, children_of}
+use Rattle.beta_tree.proofs.Places.{bool_tells, same_yes, same_no, child_of_prefix, vector_of_child}
+
+eq_or_below : (q x : ℕ) → q < x + 1 → (q ≡ x) ⊎ (q < x)
+eq_or_below q x l = elim (bool_tells (q == x)) [ inl t ↦ inl (eqb-true q x t) | inr f ↦ inr (let ne : q ≢ x = eqb-false q x f in omega arith) ]
+
+below_or_from : (q x : ℕ) → (q < x) ⊎ (x ≤ q)
+below_or_from q x = elim (bool_tells (ltb q x)) [ inl t ↦ inl (ltb-true q x t) | inr f ↦ inr (ltb-false q x f) ]
+
+-- with x each lesser number
+abbrev pub Closed : List ℕ → Type 0
+Closed xs = (x y : ℕ) → In x xs → y < x → In y xs
+
+
+count_of_range : (n : ℕ) (xs : List ℕ) → ((x : ℕ) → x < n → In x xs) → ((x : ℕ) → In x xs → x < n) → distinct_count eqb xs ≡ n
+count_of_range n xs all only =
+    let low : n ≤ distinct_count eqb xs = le-length_from_below (unique_keys eqb xs) n (λ q h. member_of_unique eqb eqb-true same_yes q xs ∙ member_from_In eqb eqb-true same_yes q xs (all q h)) in
+    let high : distinct_count eqb xs ≤ n = length-le_from_distinct_below (unique_keys eqb xs) n (unique_distinct eqb eqb-true same_yes xs) (λ q h. only q (In_from_member eqb eqb-true same_yes q xs (sym (member_of_unique eqb eqb-true same_yes q xs) ∙ h))) in
+    omega arith
+
+-- in a list that has with each number each lesser one, the members are the numbers below the count of distinct members
+pub below_count : (xs : List ℕ) → Closed xs → (x : ℕ) → In x xs → x < distinct_count eqb xs
+below_count xs closed x h =
+    let low : x + 1 ≤ distinct_count eqb xs =
+        le-length_from_below (unique_keys eqb xs) (x + 1) (λ q l. member_of_unique eqb eqb-true same_yes q xs ∙ member_from_In eqb eqb-true same_yes q xs (elim (eq_or_below q x l) [ inl e ↦ rw e h | inr less ↦ closed x q h less ])) in
+    omega arith
+
+pub above_count : (xs : List ℕ) → Closed xs → (x : ℕ) → x < distinct_count eqb xs → In x xs
+above_count xs closed x h =
+    elim (bool_tells (list_any (eqb x) xs)) [
+        inl t ↦ In_from_member eqb eqb-true same_yes x xs t
+      | inr f ↦
+        let high : distinct_count eqb xs ≤ x =
+            length-le_from_distinct_below (unique_keys eqb xs) x (unique_distinct eqb eqb-true same_yes xs) (λ q m.
+                let i : In q xs = In_from_member eqb eqb-true same_yes q xs (sym (member_of_unique eqb eqb-true same_yes q xs) ∙ m) in
+                elim (below_or_from q x) [
+                    inl less ↦ less
+                  | inr from ↦
+                    let j : In x xs = elim (eq_or_below x q (omega arith)) [ inl e ↦ rw e i | inr less ↦ closed q x i less ] in
+                    absurd (let t : true ≡ false = sym (member_from_In eqb eqb-true same_yes x xs j) ∙ f in cc)
+                ]) in
+        absurd (omega arith)
+    ]

@@ -1,0 +1,4 @@
+mod Checks
+pub mod Places
+pub mod Distinct
+pub mod Counts
