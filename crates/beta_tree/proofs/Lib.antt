@@ -2,3 +2,9 @@ mod Checks
 pub mod Places
 pub mod Distinct
 pub mod Counts
+pub mod Grafts
+pub mod Loops
+pub mod Fissions
+pub mod Fuses
+pub mod Orders
+pub mod Levels
