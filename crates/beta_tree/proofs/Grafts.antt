@@ -58,7 +58,7 @@ graft_dense (q ∷ Q) M N B g m b (p ∷ P) x y w h l =
     ]
 
 -- an edit of all vectors below Q is a graft
-grafted_below : (Q : List ℕ) (f : List ℕ → List ℕ) (V : List (List ℕ)) → (some : (u : List ℕ) × In u (under Q V)) → Grafted Q (λ v. In v V) (λ v. In v (map (below Q f) V)) (λ v. In v (map f (under Q V)))
+pub grafted_below : (Q : List ℕ) (f : List ℕ → List ℕ) (V : List (List ℕ)) → (some : (u : List ℕ) × In u (under Q V)) → Grafted Q (λ v. In v V) (λ v. In v (map (below Q f) V)) (λ v. In v (map f (under Q V)))
 grafted_below Q f V some = record {
   into = λ v h.
       let (a, i, e) = from_In-map (below Q f) v V h in
@@ -88,7 +88,7 @@ dense_below Q f V some d e = graft_dense Q (λ v. In v V) (λ v. In v (map (belo
 
 -- prefix-freeness
 
-apart_map : (f : List ℕ → List ℕ) (v : List ℕ) (V : List (List ℕ)) → ((w : List ℕ) → In w V → Apart v w → Apart (f v) (f w)) → ApartFromAll v V → ApartFromAll (f v) (map f V)
+pub apart_map : (f : List ℕ → List ℕ) (v : List ℕ) (V : List (List ℕ)) → ((w : List ℕ) → In w V → Apart v w → Apart (f v) (f w)) → ApartFromAll v V → ApartFromAll (f v) (map f V)
 apart_map f v [] h a = tt
 apart_map f v (w ∷ V) h a = (h w (inl refl) a.0, apart_map f v V (λ z i. h z (inr i)) a.1)
 

@@ -8,3 +8,5 @@ pub mod Fissions
 pub mod Fuses
 pub mod Orders
 pub mod Levels
+pub mod Trees
+pub mod Leaves
