@@ -51,3 +51,34 @@ above_count xs closed x h =
                 ]) in
         absurd (omega arith)
     ]
+
+-- one more than the greatest number of a list, 0 for the empty list
+abbrev pub past_greatest : List ℕ → ℕ
+past_greatest [] = 0
+past_greatest (x ∷ xs) = max (x + 1) (past_greatest xs)
+
+past_all : (xs : List ℕ) (x : ℕ) → In x xs → x < past_greatest xs
+past_all [] x h = absurd h
+past_all (y ∷ xs) x (inl e) = omega arith
+past_all (y ∷ xs) x (inr h) = let l = past_all xs x h in omega arith
+
+greatest_in : (xs : List ℕ) (m : ℕ) → past_greatest xs ≡ m + 1 → In m xs
+greatest_in [] m e = absurd (omega arith)
+greatest_in (y ∷ xs) m e =
+    elim (bool_tells (y == m)) [
+        inl t ↦ inl (eqb-true y m t)
+      | inr f ↦ let ne : y ≢ m = eqb-false y m f in inr (greatest_in xs m (omega arith))
+    ]
+
+-- where each lesser number is a member too, that is the count of distinct members
+pub past_is_count : (xs : List ℕ) → Closed xs → past_greatest xs ≡ distinct_count eqb xs
+past_is_count xs closed =
+    let high : past_greatest xs ≤ distinct_count eqb xs =
+        elim (past_greatest xs) as (λ n. past_greatest xs ≡ n → n ≤ distinct_count eqb xs) [
+            zero ↦ λ e. omega arith
+          | suc m ↦ λ e. let b = below_count xs closed m (greatest_in xs m (omega arith)) in omega arith
+        ] refl in
+    elim (bool_tells (ltb (past_greatest xs) (distinct_count eqb xs))) [
+        inr f ↦ let low = ltb-false (past_greatest xs) (distinct_count eqb xs) f in omega arith
+      | inl t ↦ let l = past_all xs (past_greatest xs) (above_count xs closed (past_greatest xs) (ltb-true (past_greatest xs) (distinct_count eqb xs) t)) in absurd (omega arith)
+    ]

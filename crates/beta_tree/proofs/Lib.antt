@@ -10,3 +10,4 @@ pub mod Orders
 pub mod Levels
 pub mod Trees
 pub mod Leaves
+pub mod Steps
