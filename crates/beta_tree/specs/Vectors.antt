@@ -102,3 +102,11 @@ dense_of V = map (dense_among V) V
 abbrev pub Fit : List ℕ → Type 0
 Fit [] = Unit {0}
 Fit (x ∷ v) = (x < 2 ^ 32) × Fit v
+
+abbrev pub AllFit : List (List ℕ) → Type 0
+AllFit [] = Unit {0}
+AllFit (v ∷ V) = Fit v × AllFit V
+
+-- each vector under P is longer than k
+abbrev pub LongerUnder : List ℕ → ℕ → List (List ℕ) → Type 0
+LongerUnder P k V = (w : List ℕ) → In (P ++ w) V → k < length (P ++ w)

@@ -1,0 +1,16 @@
+//! Parts and relations: systems of affine equalities and inequalities with existential integer
+//! locals, and unions of them.
+#![tactic(auto)]
+
+mod layouts;
+mod part_rows;
+mod parts;
+mod relations;
+mod row_lists;
+mod shapes;
+
+pub use layouts::print_part;
+pub use part_rows::{PartRow, RowKind};
+pub use parts::Part;
+pub use relations::Relation;
+pub use shapes::Shape;
