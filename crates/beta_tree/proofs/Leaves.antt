@@ -97,10 +97,10 @@ module _ (Q : List ℕ) (p : ℕ) where
   split_is : (v : List ℕ) → leaf_split Leaf v ≡ (if same_vector v Leaf then v ∷ ((Q ++ (p + 1) ∷ []) ∷ []) else room v ∷ [])
   split_is v = rw (front_of_append Q p, last_of_append Q p) refl
 
-  split_leaf : (v : List ℕ) → v ≡ Leaf → leaf_split Leaf v ≡ v ∷ ((Q ++ (p + 1) ∷ []) ∷ [])
+  pub split_leaf : (v : List ℕ) → v ≡ Leaf → leaf_split Leaf v ≡ v ∷ ((Q ++ (p + 1) ∷ []) ∷ [])
   split_leaf v e = split_is v ∙ (let h : same_vector v Leaf ≡ true = rw e (same_vector_refl Leaf) in rw h refl)
 
-  split_other : (v : List ℕ) → v ≢ Leaf → leaf_split Leaf v ≡ room v ∷ []
+  pub split_other : (v : List ℕ) → v ≢ Leaf → leaf_split Leaf v ≡ room v ∷ []
   split_other v ne = split_is v ∙ elim (bool_tells (same_vector v Leaf)) [ inl t ↦ absurd (ne (same_vector_yes v Leaf t)) | inr f ↦ rw f refl ]
 
   vector_cases : (v : List ℕ) → (v ≡ Leaf) ⊎ (v ≢ Leaf)
@@ -259,3 +259,6 @@ module _ (Q : List ℕ) (p : ℕ) where
     dense = graft_dense Q (λ v. In v V) (λ v. In v (flat_map (leaf_split Leaf) V)) (WithNextLeaf p (under Q V)) (grafted_split V i) t.dense
         (leaf_dense p (under Q V) (In-under Q (p ∷ []) V i) (dense_under Q V t.dense));
   }
+
+pub same_vector_no : (u v : List ℕ) → same_vector u v ≡ false → u ≢ v
+same_vector_no u v h e = let g : same_vector u v ≡ true = rw e (same_vector_refl v) in cc

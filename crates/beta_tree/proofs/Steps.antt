@@ -1,7 +1,9 @@
 -- What the code of an edit does to one vector.
 use Rattle.std.proofs.Common.{◌≡◌, ◌≢◌, ℕ, ◌+◌, ◌-◌, ◌<◌, ◌≤◌, ◌^◌, ◌==◌, nat_lt, Bool, true, false, if◌then◌else◌, ◌⊎◌, inl, inr, Option, Some, None, List, [], ◌∷◌, ◌++◌, length, get_or, take, drop, refl, sym, ◌∙◌, ap, subst, arith}
 use Rattle.std.proofs.lemmas.Bool.{eqb-true, lt-ltb, le-ltb}
-use Rattle.beta_tree.specs.Vectors.{after, Fit}
+use Rattle.std.proofs.Math.Seq.{drop-cons}
+use Rattle.std.specs.Option.{is_some}
+use Rattle.beta_tree.specs.Vectors.{after, Fit, In, LongerUnder}
 use Rattle.beta_tree.specs.Edits.{below, split_loop, split_children, join_loops, appended_children, moved_up, moved_down}
 use Rattle.beta_tree.proofs.Places.{bool_tells, same_yes, same_no, after_append, after_is, below_append, below_other}
 
@@ -65,3 +67,14 @@ join_one p n (x ∷ []) l =
         true ↦ λ e. ap (λ m. m ∷ []) (moved_next p x e)
       | false ↦ λ e. refl
     ] refl
+
+-- the vector at a place, of those that are longer under a prefix
+pub longer_at : (P : List ℕ) (k i : ℕ) (V : List (List ℕ)) (v d : List ℕ) → LongerUnder P k (drop i V) → i < length V → v ≡ get_or V i d → is_some (after P v) ≡ true → k < length v
+longer_at P k i V v d h l e s =
+    let here : In v (drop i V) = rw (drop-cons V i d l) (inl (sym e)) in
+    elim (after P v) as (λ o. after P v ≡ o → is_some o ≡ true → k < length v) [
+        Some w ↦ λ f g.
+            let is : v ≡ P ++ w = after_is P v w f in
+            rw is (h w (subst (λ z. In z (drop i V)) is here))
+      | None ↦ λ f g. absurd (cc)
+    ] refl s

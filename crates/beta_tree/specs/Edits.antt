@@ -1,6 +1,7 @@
 -- What each operation does to one vector.
 use Rattle.std.specs.Prelude.{ℕ, zero, suc, ◌+◌, ◌-◌, ◌<◌, ◌==◌, nat_lt, Bool, true, false, if◌then◌else◌, not, ◌&&◌, Option, Some, None, is_some, List, [], ◌∷◌, ◌++◌, length, map, insert}
 use Rattle.std.specs.List.{flat_map, list_any}
+use Rattle.std.specs.Cmp.Lexicographic.{pointwise}
 use Rattle.std.proofs.Math.Dec.{eqb}
 use Rattle.beta_tree.specs.Vectors.{after, children_of}
 
@@ -96,10 +97,7 @@ make_room p (x ∷ w) = moved_up p x ∷ w
 
 -- u and v are the same vector
 abbrev pub same_vector : List ℕ → List ℕ → Bool
-same_vector [] [] = true
-same_vector [] (y ∷ v) = false
-same_vector (x ∷ u) [] = false
-same_vector (x ∷ u) (y ∷ v) = (x == y) && same_vector u v
+same_vector u v = pointwise eqb u v
 
 -- the leaf P gets a new leaf right after it; later siblings of P move up by one
 abbrev pub leaf_split : List ℕ → List ℕ → List (List ℕ)

@@ -62,6 +62,17 @@ pub fn level_all(vectors: &List<List<u32>>, prefix: &[u32], level: usize) -> Res
     Ok(made)
 }
 
+/// Appends `leaf`, and then the leaf right after it, which is `siblings` and `p + 1`.
+fn push_leaves(made: &mut List<List<u32>>, leaf: &[u32], siblings: &[u32], p: u32) -> Result<(), NoMemory>
+    requires { p + 1 < 2 ^ 32 }
+    ensures { OnOk result (made.new ≡ made.old ++ leaf.now ∷ ((siblings.now ++ (p + 1) ∷ []) ∷ [])) }
+{
+    let alloc = made.allocator();
+    let next = joined(alloc, siblings, &[p + 1], &[])?;
+    made.push(copied(alloc, leaf)?)?;
+    made.push(next)
+}
+
 /// Appends `vector` after room for a new leaf was made right after `leaf`, which is `siblings` and
 /// `p`; after `leaf` itself the new leaf.
 fn push_split(made: &mut List<List<u32>>, leaf: &[u32], siblings: &[u32], p: u32, vector: &[u32]) -> Result<(), NoMemory>
@@ -70,12 +81,10 @@ fn push_split(made: &mut List<List<u32>>, leaf: &[u32], siblings: &[u32], p: u32
     requires fit { Fit (below siblings.now (make_room p) vector.now) }
     ensures { OnOk result (made.new ≡ made.old ++ leaf_split leaf.now vector.now) }
 {
-    let alloc = made.allocator();
     if vector == leaf {
-        made.push(copied(alloc, vector)?)?;
-        made.push(joined(alloc, siblings, &[p + 1], &[])?)
+        push_leaves(made, vector, siblings, p)
     } else {
-        made.push(room_vector(alloc, siblings, p, vector)?)
+        made.push(room_vector(made.allocator(), siblings, p, vector)?)
     }
 }
 
