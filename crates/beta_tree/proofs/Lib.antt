@@ -11,3 +11,4 @@ pub mod Levels
 pub mod Trees
 pub mod Leaves
 pub mod Steps
+pub mod Calls

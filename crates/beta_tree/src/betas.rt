@@ -1,12 +1,19 @@
-//! The beta vectors of a SCoP's statements.
+//! The beta vectors of a SCoP's statements as a tree of loops.
 
-ghost use Rattle.std.specs.Prelude.{◌≡◌, ◌<◌, length, slice_get, OnSome};
+ghost use Rattle.std.specs.Prelude.{◌≡◌, ◌+◌, ◌-◌, ◌<◌, ◌≤◌, ◌^◌, Ok, length, slice_get, OnOk, OnErr, IfErr, OnSome};
 ghost use Rattle.std.specs.Option.{option_copied};
+ghost use Rattle.beta_tree.specs.Vectors.{children_of, IsTree, LongerUnder};
+ghost use Rattle.beta_tree.specs.Answers.{HasCause, fission_answer, fuse_answer, reorder_answer, level_answer, leaf_answer};
 
+use crate::copies::joined;
+use crate::looks::{count_children, is_leaf, is_permutation, is_under, split_prefix};
+use crate::rebuilds::{join_all, level_all, reorder_all, split_all, split_leaves};
+use crate::refusals::BetaFail;
 use std::marker::Model;
 use suite_base::List;
 
-/// The beta vectors of the statements, in the statements' order. Contracts see the list of vectors.
+/// The beta vectors of the statements, in the statements' order. Contracts see the list of vectors,
+/// which is dense, with none empty and none a prefix of another.
 #[derive(Debug, Drop)]
 pub struct Betas {
     vectors: List<List<u32>>,
@@ -26,7 +33,8 @@ impl Model for Betas {
 impl Betas {
     /// The number of vectors.
     pub fn len(&self) -> usize
-        ensures { result ≡ length self.now }
+        ensures count { result ≡ length self.now }
+        ensures tree { IsTree self.now }
     {
         self.vectors.len()
     }
@@ -40,5 +48,41 @@ impl Betas {
             Some(vector) => Some(vector.as_slice()),
             None => None,
         }
+    }
+
+    /// The number of children of `prefix`: of the distinct next entries of the vectors that begin with
+    /// it.
+    pub fn children(&self, prefix: &[u32]) -> usize
+        ensures { result ≡ children_of prefix.now self.now }
+    {
+        count_children(&self.vectors, prefix)
+    }
+
+    /// The children of the loop `prefix` from number `first` on become the children of a new loop right
+    /// after it. Later siblings of `prefix` move up by one.
+    ///
+    /// `NoBeta` where no vector begins with `prefix`, then `NotALoop` where `prefix` is no loop, then
+    /// `BadArgument` where `first` is not from 1 to the number of children minus 1. A refused call
+    /// leaves the vectors as they were.
+    pub fn fission(&mut self, prefix: &[u32], first: u32) -> Result<(), BetaFail>
+        ensures ok { OnOk result (fission_answer prefix.now first self.old ≡ Ok self.new) }
+        ensures cause { IfErr result (λ e. HasCause e (fission_answer prefix.now first self.old)) }
+        ensures kept { OnErr result (self.new ≡ self.old) }
+        ensures tree { IsTree self.new }
+    {
+        if !is_under(&self.vectors, prefix) {
+            return Err(BetaFail::NoBeta);
+        }
+        let Some((siblings, p)) = split_prefix(prefix) else {
+            return Err(BetaFail::NotALoop);
+        };
+        if is_leaf(&self.vectors, prefix) {
+            return Err(BetaFail::NotALoop);
+        }
+        if first == 0 || first as usize >= count_children(&self.vectors, prefix) {
+            return Err(BetaFail::BadArgument);
+        }
+        self.vectors = split_all(&self.vectors, siblings, p, first)?;
+        Ok(())
     }
 }

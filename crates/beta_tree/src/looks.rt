@@ -1,6 +1,6 @@
 //! What is asked of a list of vectors before an edit.
 
-ghost use Rattle.std.specs.Prelude.{◌≡◌, length, not};
+ghost use Rattle.std.specs.Prelude.{◌≡◌, [], ◌∷◌, ◌++◌, length, not, MatchOption};
 ghost use Rattle.std.specs.Option.{option_copied};
 ghost use Rattle.beta_tree.specs.Vectors.{after as what_follows, no_statement, is_leaf as has_leaf, is_loop as has_loop, children_of, IsDense};
 ghost use Rattle.beta_tree.specs.Edits.{is_permutation_of, has_all_below};
@@ -14,6 +14,16 @@ pub fn after<'a>(prefix: &[u32], vector: &'a [u32]) -> Option<&'a [u32]>
     ensures { option_copied result ≡ what_follows prefix.now vector.now }
 {
     vector.strip_prefix(prefix)
+}
+
+/// What stands before the last entry of `prefix`, and that entry; `None` for the empty one.
+pub fn split_prefix(prefix: &[u32]) -> Option<(&[u32], u32)>
+    ensures { MatchOption result (prefix.now ≡ []) (λ parts. prefix.now ≡ parts.0.now ++ parts.1 ∷ []) }
+{
+    match prefix {
+        [siblings @ .., last] => Some((siblings, *last)),
+        [] => None,
+    }
 }
 
 /// Whether a vector begins with `prefix`.
