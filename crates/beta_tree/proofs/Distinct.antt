@@ -14,7 +14,7 @@ module _ {K : Type 0} (eq : K → K → Bool) (right : (x y : K) → eq x y ≡ 
   In_from_member a [] h = absurd (cc)
   In_from_member a (x ∷ xs) h =
       elim (eq a x) as (λ t. eq a x ≡ t → (t || list_any (eq a) xs) ≡ true → In a (x ∷ xs)) [
-          true ↦ λ e g. inl (sym (right a x e))
+        | true ↦ λ e g. inl (sym (right a x e))
         | false ↦ λ e g. inr (In_from_member a xs g)
       ] refl h
 
@@ -22,10 +22,10 @@ module _ {K : Type 0} (eq : K → K → Bool) (right : (x y : K) → eq x y ≡ 
   member_of_unique a [] = refl
   member_of_unique a (x ∷ xs) =
       elim (is_member eq xs x) as (λ t. is_member eq xs x ≡ t → list_any (eq a) (cond t (unique_keys eq xs) (x ∷ unique_keys eq xs)) ≡ (eq a x || list_any (eq a) xs)) [
-          true ↦ λ e. elim (eq a x) as (λ t. eq a x ≡ t → list_any (eq a) (unique_keys eq xs) ≡ (t || list_any (eq a) xs)) [
-              true ↦ λ s. member_of_unique a xs ∙ (let e2 = right a x s in rw e2 e)
-            | false ↦ λ s. member_of_unique a xs
-          ] refl
+        | true ↦ λ e. elim (eq a x) as (λ t. eq a x ≡ t → list_any (eq a) (unique_keys eq xs) ≡ (t || list_any (eq a) xs)) [
+          | true ↦ λ s. member_of_unique a xs ∙ (let e2 = right a x s in rw e2 e)
+          | false ↦ λ s. member_of_unique a xs
+        ] refl
         | false ↦ λ e. ap (λ t. eq a x || t) (member_of_unique a xs)
       ] refl
 
@@ -33,7 +33,7 @@ module _ {K : Type 0} (eq : K → K → Bool) (right : (x y : K) → eq x y ≡ 
   apart_from_absent x [] h = tt
   apart_from_absent x (y ∷ ys) h =
       elim (eq x y) as (λ t. eq x y ≡ t → (t || is_member eq ys x) ≡ false → (eq x y ≡ false) × AllByRecursion (λ z. eq x z ≡ false) ys) [
-          true ↦ λ e g. absurd (cc)
+        | true ↦ λ e g. absurd (cc)
         | false ↦ λ e g. (e, apart_from_absent x ys g)
       ] refl h
 
@@ -49,6 +49,6 @@ module _ {K : Type 0} (eq : K → K → Bool) (right : (x y : K) → eq x y ≡ 
   unique_distinct [] = distinct-nil
   unique_distinct (x ∷ xs) =
       elim (is_member eq xs x) as (λ t. is_member eq xs x ≡ t → IsDistinct eq (cond t (unique_keys eq xs) (x ∷ unique_keys eq xs))) [
-          true ↦ λ e. unique_distinct xs
+        | true ↦ λ e. unique_distinct xs
         | false ↦ λ e. distinct-cons x (unique_keys eq xs) (member_of_unique x xs ∙ e) (unique_distinct xs)
       ] refl

@@ -20,9 +20,9 @@ pub record Grafted (Q : List ℕ) (M N B : List ℕ → Type 0) : Type 0 where
 grafted_tail : (q : ℕ) (Q : List ℕ) (M N B : List ℕ → Type 0) → Grafted (q ∷ Q) M N B → Grafted Q (λ v. M (q ∷ v)) (λ v. N (q ∷ v)) B
 grafted_tail q Q M N B g = record {
   into = λ v h. elim (g.into (q ∷ v) h) [
-      inl (u, e, b) ↦ let e2 : v ≡ Q ++ u = cc in inl (u, e2, b)
+    | inl (u, e, b) ↦ let e2 : v ≡ Q ++ u = cc in inl (u, e2, b)
     | inr (none, m) ↦ let none2 : after Q v ≡ None = (rw (same_yes q) at none) in inr (none2, m)
-    ];
+  ];
   here = g.here;
   other = λ v m none. g.other (q ∷ v) m (rw (same_yes q) none);
   under_old = g.under_old;
@@ -32,29 +32,29 @@ grafted_tail q Q M N B g = record {
 pub graft_dense : (Q : List ℕ) (M N B : List ℕ → Type 0) → Grafted Q M N B → DenseSet M → DenseSet B → DenseSet N
 graft_dense [] M N B g m b P x y w h l =
     elim (g.into (P ++ x ∷ w) h) [
-        inl (u, e, i) ↦ let (t, k) = b P x y w (subst B (sym e) i) l in (t, g.here (P ++ y ∷ t) k)
+      | inl (u, e, i) ↦ let (t, k) = b P x y w (subst B (sym e) i) l in (t, g.here (P ++ y ∷ t) k)
       | inr (none, i) ↦ absurd (let e : Some (P ++ x ∷ w) ≡ None = none in cc)
     ]
 graft_dense (q ∷ Q) M N B g m b [] x y w h l =
     let old : (u : List ℕ) × M (x ∷ u) = elim (g.into (x ∷ w) h) [
-        inl (u, e, i) ↦ let same : q ≡ x = cc in (Q ++ g.under_old.0, subst (λ n. M (n ∷ (Q ++ g.under_old.0))) same g.under_old.1)
+      | inl (u, e, i) ↦ let same : q ≡ x = cc in (Q ++ g.under_old.0, subst (λ n. M (n ∷ (Q ++ g.under_old.0))) same g.under_old.1)
       | inr (none, i) ↦ (w, i)
     ] in
     let lower : (u : List ℕ) × M (y ∷ u) = m [] x y old.0 old.1 l in
     elim (bool_tells (y == q)) [
-        inl t ↦ (Q ++ g.under_new.0, subst (λ n. N (n ∷ (Q ++ g.under_new.0))) (sym (eqb-true y q t)) (g.here g.under_new.0 g.under_new.1))
+      | inl t ↦ (Q ++ g.under_new.0, subst (λ n. N (n ∷ (Q ++ g.under_new.0))) (sym (eqb-true y q t)) (g.here g.under_new.0 g.under_new.1))
       | inr f ↦ (lower.0, g.other (y ∷ lower.0) lower.1 (rw f refl))
     ]
 graft_dense (q ∷ Q) M N B g m b (p ∷ P) x y w h l =
     elim (bool_tells (p == q)) [
-        inl t ↦
-        let same : p ≡ q = eqb-true p q t in
-        let (u, k) = graft_dense Q (λ v. M (q ∷ v)) (λ v. N (q ∷ v)) B (grafted_tail q Q M N B g) (λ R. m (q ∷ R)) b P x y w (subst (λ n. N (n ∷ (P ++ x ∷ w))) same h) l in
-        (u, subst (λ n. N (n ∷ (P ++ y ∷ u))) (sym same) k)
+      | inl t ↦
+          let same : p ≡ q = eqb-true p q t in
+          let (u, k) = graft_dense Q (λ v. M (q ∷ v)) (λ v. N (q ∷ v)) B (grafted_tail q Q M N B g) (λ R. m (q ∷ R)) b P x y w (subst (λ n. N (n ∷ (P ++ x ∷ w))) same h) l in
+          (u, subst (λ n. N (n ∷ (P ++ y ∷ u))) (sym same) k)
       | inr f ↦ elim (g.into (p ∷ (P ++ x ∷ w)) h) [
-          inl (u, e, i) ↦ absurd (let same : p ≡ q = cc in eqb-false p q f same)
+        | inl (u, e, i) ↦ absurd (let same : p ≡ q = cc in eqb-false p q f same)
         | inr (none, i) ↦ let (u, k) = m (p ∷ P) x y w i l in (u, g.other (p ∷ (P ++ y ∷ u)) k (rw f refl))
-        ]
+      ]
     ]
 
 -- an edit of all vectors below Q is a graft
@@ -63,12 +63,12 @@ grafted_below Q f V some = record {
   into = λ v h.
       let (a, i, e) = from_In-map (below Q f) v V h in
       elim (after Q a) as (λ o. after Q a ≡ o → ((u : List ℕ) × (v ≡ Q ++ u) × In u (map f (under Q V))) ⊎ ((after Q v ≡ None) × In v V)) [
-          Some u ↦ λ t.
-              let is : a ≡ Q ++ u = after_is Q a u t in
-              inl (f u, (sym e ∙ ap (below Q f) is) ∙ below_append Q f u, In-map f u (under Q V) (In-under Q u V (subst (λ z. In z V) is i)))
+        | Some u ↦ λ t.
+            let is : a ≡ Q ++ u = after_is Q a u t in
+            inl (f u, (sym e ∙ ap (below Q f) is) ∙ below_append Q f u, In-map f u (under Q V) (In-under Q u V (subst (λ z. In z V) is i)))
         | None ↦ λ t.
-              let same : a ≡ v = sym (below_other Q f a t) ∙ e in
-              inr (subst (λ z. after Q z ≡ None) same t, subst (λ z. In z V) same i)
+            let same : a ≡ v = sym (below_other Q f a t) ∙ e in
+            inr (subst (λ z. after Q z ≡ None) same t, subst (λ z. In z V) same i)
       ] refl;
   here = λ u h.
       let (a, i, e) = from_In-map f u (under Q V) h in
@@ -102,15 +102,15 @@ apart_below (q ∷ Q) f [] w h a = absurd a
 apart_below (q ∷ Q) f (x ∷ v) [] h a = absurd a
 apart_below (q ∷ Q) f (x ∷ v) (y ∷ w) h a =
     elim (x == q) as (λ s. (x == q) ≡ s → Apart (if s then x ∷ below Q f v else x ∷ v) (if y == q then y ∷ below Q f w else y ∷ w)) [
-        true ↦ λ e. elim (y == q) as (λ t. (y == q) ≡ t → Apart (x ∷ below Q f v) (if t then y ∷ below Q f w else y ∷ w)) [
-            true ↦ λ e2. elim a [
-                inl ne ↦ inl ne
-              | inr more ↦ inr (apart_below Q f v w (λ c d i j. let x1 = eqb-true x q e in let y1 = eqb-true y q e2 in h c d (cc) (cc)) more)
-              ]
-          | false ↦ λ e2. inl (λ same. let x1 = eqb-true x q e in eqb-false y q e2 (sym same ∙ x1))
-        ] refl
+      | true ↦ λ e. elim (y == q) as (λ t. (y == q) ≡ t → Apart (x ∷ below Q f v) (if t then y ∷ below Q f w else y ∷ w)) [
+        | true ↦ λ e2. elim a [
+          | inl ne ↦ inl ne
+          | inr more ↦ inr (apart_below Q f v w (λ c d i j. let x1 = eqb-true x q e in let y1 = eqb-true y q e2 in h c d (cc) (cc)) more)
+        ]
+        | false ↦ λ e2. inl (λ same. let x1 = eqb-true x q e in eqb-false y q e2 (sym same ∙ x1))
+      ] refl
       | false ↦ λ e. elim (y == q) as (λ t. (y == q) ≡ t → Apart (x ∷ v) (if t then y ∷ below Q f w else y ∷ w)) [
-            true ↦ λ e2. inl (λ same. let y1 = eqb-true y q e2 in eqb-false x q e (same ∙ y1))
-          | false ↦ λ e2. a
-        ] refl
+        | true ↦ λ e2. inl (λ same. let y1 = eqb-true y q e2 in eqb-false x q e (same ∙ y1))
+        | false ↦ λ e2. a
+      ] refl
     ] refl

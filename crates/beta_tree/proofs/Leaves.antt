@@ -72,7 +72,7 @@ apart_next [] p v a = room_apart_next p v a
 apart_next (q ∷ Q) p [] a = absurd a
 apart_next (q ∷ Q) p (x ∷ v) a =
     elim (x == q) as (λ t. (x == q) ≡ t → Apart (if t then x ∷ below Q (make_room p) v else x ∷ v) (q ∷ (Q ++ (p + 1) ∷ []))) [
-        true ↦ λ e. elim a [ inl ne ↦ absurd (ne (eqb-true x q e)) | inr more ↦ inr (apart_next Q p v more) ]
+      | true ↦ λ e. elim a [ inl ne ↦ absurd (ne (eqb-true x q e)) | inr more ↦ inr (apart_next Q p v more) ]
       | false ↦ λ e. inl (eqb-false x q e)
     ] refl
 
@@ -105,9 +105,9 @@ module _ (Q : List ℕ) (p : ℕ) where
 
   vector_cases : (v : List ℕ) → (v ≡ Leaf) ⊎ (v ≢ Leaf)
   vector_cases v = elim (bool_tells (same_vector v Leaf)) [
-      inl t ↦ inl (same_vector_yes v Leaf t)
+    | inl t ↦ inl (same_vector_yes v Leaf t)
     | inr f ↦ inr (λ e. let h : same_vector v Leaf ≡ true = rw e (same_vector_refl Leaf) in cc)
-    ]
+  ]
 
   apart_room : (v w : List ℕ) → Apart v w → Apart (room v) (room w)
   apart_room v w a = apart_below Q (make_room p) v w (λ b c e g h. room_apart p b c h) a
@@ -129,47 +129,47 @@ module _ (Q : List ℕ) (p : ℕ) where
   apart_split_all v [] ne a = tt
   apart_split_all v (w ∷ V) ne a =
       elim (vector_cases w) [
-          inl e ↦
-          let h = split_leaf w e in
-          let va : Apart v Leaf = subst (λ z. Apart v z) e a.0 in
-          let first : Apart (room v) w = subst (λ z. Apart (room v) z) (room_of_leaf ∙ sym e) (apart_room v Leaf va) in
-          let rest = apart_split_all v V ne a.1 in
-          rw h (first, (apart_next Q p v va, rest))
+        | inl e ↦
+            let h = split_leaf w e in
+            let va : Apart v Leaf = subst (λ z. Apart v z) e a.0 in
+            let first : Apart (room v) w = subst (λ z. Apart (room v) z) (room_of_leaf ∙ sym e) (apart_room v Leaf va) in
+            let rest = apart_split_all v V ne a.1 in
+            rw h (first, (apart_next Q p v va, rest))
         | inr n ↦
-          let h = split_other w n in
-          rw h (apart_room v w a.0, apart_split_all v V ne a.1)
+            let h = split_other w n in
+            rw h (apart_room v w a.0, apart_split_all v V ne a.1)
       ]
 
   free_split : (V : List (List ℕ)) → PrefixFree V → PrefixFree (flat_map (leaf_split Leaf) V)
   free_split [] f = tt
   free_split (v ∷ V) f =
       elim (vector_cases v) [
-          inl e ↦
-          let h = split_leaf v e in
-          let apart : ApartFromAll Leaf V = subst (λ z. ApartFromAll z V) e f.0 in
-          let g = split_none V apart in
-          let first : ApartFromAll v (map room V) = subst (λ z. ApartFromAll z (map room V)) (room_of_leaf ∙ sym e) (apart_map room Leaf V (λ w i k. apart_room Leaf w k) apart) in
-          let next : Apart v (Q ++ (p + 1) ∷ []) = subst (λ z. Apart z (Q ++ (p + 1) ∷ [])) (sym e) (apart_siblings Q p) in
-          rw (h, g) ((next, first), (next_apart V apart, free_map room V (λ a b i j k. apart_room a b k) f.1))
+        | inl e ↦
+            let h = split_leaf v e in
+            let apart : ApartFromAll Leaf V = subst (λ z. ApartFromAll z V) e f.0 in
+            let g = split_none V apart in
+            let first : ApartFromAll v (map room V) = subst (λ z. ApartFromAll z (map room V)) (room_of_leaf ∙ sym e) (apart_map room Leaf V (λ w i k. apart_room Leaf w k) apart) in
+            let next : Apart v (Q ++ (p + 1) ∷ []) = subst (λ z. Apart z (Q ++ (p + 1) ∷ [])) (sym e) (apart_siblings Q p) in
+            rw (h, g) ((next, first), (next_apart V apart, free_map room V (λ a b i j k. apart_room a b k) f.1))
         | inr n ↦
-          let h = split_other v n in
-          rw h (apart_split_all v V n f.0, free_split V f.1)
+            let h = split_other v n in
+            rw h (apart_split_all v V n f.0, free_split V f.1)
       ]
 
   length_split : (V : List (List ℕ)) → PrefixFree V → In Leaf V → length (flat_map (leaf_split Leaf) V) ≡ length V + 1
   length_split [] f i = absurd i
   length_split (v ∷ V) f i =
       elim (vector_cases v) [
-          inl e ↦
-          let h = split_leaf v e in
-          let g = split_none V (subst (λ z. ApartFromAll z V) e f.0) in
-          let k = length-map V room in
-          rw (h, g) (omega arith)
+        | inl e ↦
+            let h = split_leaf v e in
+            let g = split_none V (subst (λ z. ApartFromAll z V) e f.0) in
+            let k = length-map V room in
+            rw (h, g) (omega arith)
         | inr n ↦
-          let h = split_other v n in
-          let more : In Leaf V = elim i [ inl e ↦ absurd (n e) | inr k ↦ k ] in
-          let k = length_split V f.1 more in
-          rw h (omega arith)
+            let h = split_other v n in
+            let more : In Leaf V = elim i [ inl e ↦ absurd (n e) | inr k ↦ k ] in
+            let k = length_split V f.1 more in
+            rw h (omega arith)
       ]
 
   -- the members of the new list
@@ -178,49 +178,49 @@ module _ (Q : List ℕ) (p : ℕ) where
   from_In-split u [] i = absurd i
   from_In-split u (v ∷ V) i =
       elim (vector_cases v) [
-          inl e ↦
-          let k : In u (v ∷ ((Q ++ (p + 1) ∷ []) ∷ flat_map (leaf_split Leaf) V)) = subst (λ z. In u (z ++ flat_map (leaf_split Leaf) V)) (split_leaf v e) i in
-          elim k [
-              inl s ↦ let r : room v ≡ v = ap room e ∙ (room_of_leaf ∙ sym e) in inr (inl (r ∙ s))
-            | inr m ↦ elim m [
-                inl s ↦ inl (sym s)
-              | inr n ↦ elim (from_In-split u V n) [ inl s ↦ inl s | inr s ↦ inr (inr s) ]
+        | inl e ↦
+            let k : In u (v ∷ ((Q ++ (p + 1) ∷ []) ∷ flat_map (leaf_split Leaf) V)) = subst (λ z. In u (z ++ flat_map (leaf_split Leaf) V)) (split_leaf v e) i in
+            elim k [
+              | inl s ↦ let r : room v ≡ v = ap room e ∙ (room_of_leaf ∙ sym e) in inr (inl (r ∙ s))
+              | inr m ↦ elim m [
+                | inl s ↦ inl (sym s)
+                | inr n ↦ elim (from_In-split u V n) [ inl s ↦ inl s | inr s ↦ inr (inr s) ]
               ]
-          ]
+            ]
         | inr ne ↦
-          let k : In u (room v ∷ flat_map (leaf_split Leaf) V) = subst (λ z. In u (z ++ flat_map (leaf_split Leaf) V)) (split_other v ne) i in
-          elim k [
-              inl s ↦ inr (inl s)
-            | inr n ↦ elim (from_In-split u V n) [ inl s ↦ inl s | inr s ↦ inr (inr s) ]
-          ]
+            let k : In u (room v ∷ flat_map (leaf_split Leaf) V) = subst (λ z. In u (z ++ flat_map (leaf_split Leaf) V)) (split_other v ne) i in
+            elim k [
+              | inl s ↦ inr (inl s)
+              | inr n ↦ elim (from_In-split u V n) [ inl s ↦ inl s | inr s ↦ inr (inr s) ]
+            ]
       ]
 
-  In-split : (u : List ℕ) (V : List (List ℕ)) → In u (map room V) → In u (flat_map (leaf_split Leaf) V)
+  pub In-split : (u : List ℕ) (V : List (List ℕ)) → In u (map room V) → In u (flat_map (leaf_split Leaf) V)
   In-split u [] i = absurd i
   In-split u (v ∷ V) i =
       elim (vector_cases v) [
-          inl e ↦
-          let k : In u (v ∷ ((Q ++ (p + 1) ∷ []) ∷ flat_map (leaf_split Leaf) V)) = elim i [
-              inl s ↦ let r : v ≡ room v = e ∙ (sym room_of_leaf ∙ sym (ap room e)) in inl (r ∙ s)
-            | inr m ↦ inr (inr (In-split u V m))
-          ] in
-          subst (λ z. In u (z ++ flat_map (leaf_split Leaf) V)) (sym (split_leaf v e)) k
+        | inl e ↦
+            let k : In u (v ∷ ((Q ++ (p + 1) ∷ []) ∷ flat_map (leaf_split Leaf) V)) = elim i [
+              | inl s ↦ let r : v ≡ room v = e ∙ (sym room_of_leaf ∙ sym (ap room e)) in inl (r ∙ s)
+              | inr m ↦ inr (inr (In-split u V m))
+            ] in
+            subst (λ z. In u (z ++ flat_map (leaf_split Leaf) V)) (sym (split_leaf v e)) k
         | inr ne ↦
-          let k : In u (room v ∷ flat_map (leaf_split Leaf) V) = elim i [ inl s ↦ inl s | inr m ↦ inr (In-split u V m) ] in
-          subst (λ z. In u (z ++ flat_map (leaf_split Leaf) V)) (sym (split_other v ne)) k
+            let k : In u (room v ∷ flat_map (leaf_split Leaf) V) = elim i [ inl s ↦ inl s | inr m ↦ inr (In-split u V m) ] in
+            subst (λ z. In u (z ++ flat_map (leaf_split Leaf) V)) (sym (split_other v ne)) k
       ]
 
   In-next : (V : List (List ℕ)) → In Leaf V → In (Q ++ (p + 1) ∷ []) (flat_map (leaf_split Leaf) V)
   In-next [] i = absurd i
   In-next (v ∷ V) i =
       elim (vector_cases v) [
-          inl e ↦
-          let k : In (Q ++ (p + 1) ∷ []) (v ∷ ((Q ++ (p + 1) ∷ []) ∷ flat_map (leaf_split Leaf) V)) = inr (inl refl) in
-          subst (λ z. In (Q ++ (p + 1) ∷ []) (z ++ flat_map (leaf_split Leaf) V)) (sym (split_leaf v e)) k
+        | inl e ↦
+            let k : In (Q ++ (p + 1) ∷ []) (v ∷ ((Q ++ (p + 1) ∷ []) ∷ flat_map (leaf_split Leaf) V)) = inr (inl refl) in
+            subst (λ z. In (Q ++ (p + 1) ∷ []) (z ++ flat_map (leaf_split Leaf) V)) (sym (split_leaf v e)) k
         | inr ne ↦
-          let more : In Leaf V = elim i [ inl e ↦ absurd (ne e) | inr k ↦ k ] in
-          let k : In (Q ++ (p + 1) ∷ []) (room v ∷ flat_map (leaf_split Leaf) V) = inr (In-next V more) in
-          subst (λ z. In (Q ++ (p + 1) ∷ []) (z ++ flat_map (leaf_split Leaf) V)) (sym (split_other v ne)) k
+            let more : In Leaf V = elim i [ inl e ↦ absurd (ne e) | inr k ↦ k ] in
+            let k : In (Q ++ (p + 1) ∷ []) (room v ∷ flat_map (leaf_split Leaf) V) = inr (In-next V more) in
+            subst (λ z. In (Q ++ (p + 1) ∷ []) (z ++ flat_map (leaf_split Leaf) V)) (sym (split_other v ne)) k
       ]
 
   grafted_split : (V : List (List ℕ)) → In Leaf V → Grafted Q (λ v. In v V) (λ v. In v (flat_map (leaf_split Leaf) V)) (WithNextLeaf p (under Q V))
@@ -229,16 +229,16 @@ module _ (Q : List ℕ) (p : ℕ) where
       let g : Grafted Q (λ v. In v V) (λ v. In v (map room V)) (λ v. In v (map (make_room p) (under Q V))) = grafted_below Q (make_room p) V some in
       record {
         into = λ v h. elim (from_In-split v V h) [
-            inl e ↦ inl ((p + 1) ∷ [], e, inl refl)
+          | inl e ↦ inl ((p + 1) ∷ [], e, inl refl)
           | inr m ↦ elim (g.into v m) [
-              inl (u, e, k) ↦ inl (u, e, inr k)
+            | inl (u, e, k) ↦ inl (u, e, inr k)
             | inr k ↦ inr k
-            ]
-          ];
+          ]
+        ];
         here = λ u h. elim h [
-            inl e ↦ subst (λ z. In (Q ++ z) (flat_map (leaf_split Leaf) V)) (sym e) (In-next V i)
+          | inl e ↦ subst (λ z. In (Q ++ z) (flat_map (leaf_split Leaf) V)) (sym e) (In-next V i)
           | inr k ↦ In-split (Q ++ u) V (g.here u k)
-          ];
+        ];
         other = λ v k none. In-split v V (g.other v k none);
         under_old = (p ∷ [], i);
         under_new = ((p + 1) ∷ [], inl refl);
@@ -252,9 +252,9 @@ module _ (Q : List ℕ) (p : ℕ) where
   leaf_tree V t few i = record {
     few = let e = length_split V t.free i in omega arith;
     filled = λ h. elim (from_In-split [] V h) [
-        inl e ↦ no_append_nil Q (p + 1) e
+      | inl e ↦ no_append_nil Q (p + 1) e
       | inr k ↦ filled_below Q (make_room p) V (room_nil p) t.filled k
-      ];
+    ];
     free = free_split V t.free;
     dense = graft_dense Q (λ v. In v V) (λ v. In v (flat_map (leaf_split Leaf) V)) (WithNextLeaf p (under Q V)) (grafted_split V i) t.dense
         (leaf_dense p (under Q V) (In-under Q (p ∷ []) V i) (dense_under Q V t.dense));

@@ -26,9 +26,9 @@ put_zero_append (p ∷ P) (suc k) w l =
 pub with_level_below : (P : List ℕ) (k : ℕ) (v : List ℕ) → length P ≤ k → with_level P k v ≡ below P (put_zero (k - length P)) v
 with_level_below P k v l =
     elim (after P v) as (λ o. after P v ≡ o → (if is_some o then insert v k 0 else v) ≡ below P (put_zero (k - length P)) v) [
-        Some w ↦ λ e.
-            let is : v ≡ P ++ w = after_is P v w e in
-            rw is (put_zero_append P k w l ∙ sym (below_append P (put_zero (k - length P)) w))
+      | Some w ↦ λ e.
+          let is : v ≡ P ++ w = after_is P v w e in
+          rw is (put_zero_append P k w l ∙ sym (below_append P (put_zero (k - length P)) w))
       | None ↦ λ e. sym (below_other P (put_zero (k - length P)) v e)
     ] refl
 
@@ -75,14 +75,14 @@ room_high p x w l = rw (lt-ltb p x l) refl
 moved_up_apart : (p x y : ℕ) → x ≢ y → moved_up p x ≢ moved_up p y
 moved_up_apart p x y ne =
     elim (nat_lt p x) as (λ s. nat_lt p x ≡ s → (if s then x + 1 else x) ≢ moved_up p y) [
-        true ↦ λ e. elim (nat_lt p y) as (λ t. nat_lt p y ≡ t → x + 1 ≢ (if t then y + 1 else y)) [
-            true ↦ λ f h. ne (omega arith)
-          | false ↦ λ f h. let a = ltb-true p x e in let b = ltb-false p y f in omega arith
-        ] refl
+      | true ↦ λ e. elim (nat_lt p y) as (λ t. nat_lt p y ≡ t → x + 1 ≢ (if t then y + 1 else y)) [
+        | true ↦ λ f h. ne (omega arith)
+        | false ↦ λ f h. let a = ltb-true p x e in let b = ltb-false p y f in omega arith
+      ] refl
       | false ↦ λ e. elim (nat_lt p y) as (λ t. nat_lt p y ≡ t → x ≢ (if t then y + 1 else y)) [
-            true ↦ λ f h. let a = ltb-false p x e in let b = ltb-true p y f in omega arith
-          | false ↦ λ f h. ne h
-        ] refl
+        | true ↦ λ f h. let a = ltb-false p x e in let b = ltb-true p y f in omega arith
+        | false ↦ λ f h. ne h
+      ] refl
     ] refl
 
 pub room_apart : (p : ℕ) (u v : List ℕ) → Apart u v → Apart (make_room p u) (make_room p v)
@@ -105,7 +105,7 @@ room_apart_next p [] a = a
 room_apart_next p (x ∷ u) a =
     let ne : x ≢ p = elim a [ inl ne ↦ ne | inr b ↦ absurd (no_apart_of_nil u b) ] in
     elim (bool_tells (nat_lt p x)) [
-        inl t ↦ let e : moved_up p x ≡ x + 1 = rw t refl in let l = ltb-true p x t in rw e (inl (λ h. let q : x + 1 ≡ p + 1 = h in omega arith))
+      | inl t ↦ let e : moved_up p x ≡ x + 1 = rw t refl in let l = ltb-true p x t in rw e (inl (λ h. let q : x + 1 ≡ p + 1 = h in omega arith))
       | inr f ↦ let e : moved_up p x ≡ x = rw f refl in let l = ltb-false p x f in rw e (inl (λ h. let q : x ≡ p + 1 = h in omega arith))
     ]
 
@@ -120,12 +120,12 @@ module _ (p : ℕ) (W : List (List ℕ)) (leaf : In (p ∷ []) W) (d : IsDense W
   low_leaf : (y : ℕ) → y ≤ p → (u : List ℕ) × WithNextLeaf p W (y ∷ u)
   low_leaf y l =
       elim (bool_tells (y == p)) [
-          inl t ↦ ([], in_room (p ∷ []) (y ∷ []) leaf (room_low p p [] (omega arith) ∙ ap (λ n. n ∷ []) (sym (eqb-true y p t))))
+        | inl t ↦ ([], in_room (p ∷ []) (y ∷ []) leaf (room_low p p [] (omega arith) ∙ ap (λ n. n ∷ []) (sym (eqb-true y p t))))
         | inr f ↦
-          let ne : y ≢ p = eqb-false y p f in
-          let less : y < p = omega arith in
-          let (u, i) = d [] p y [] leaf less in
-          (u, in_room (y ∷ u) (y ∷ u) i (room_low p y u l))
+            let ne : y ≢ p = eqb-false y p f in
+            let less : y < p = omega arith in
+            let (u, i) = d [] p y [] leaf less in
+            (u, in_room (y ∷ u) (y ∷ u) i (room_low p y u l))
       ]
 
   room_from_vector : (x : ℕ) (w v : List ℕ) → In v W → make_room p v ≡ x ∷ w → (a : ℕ) × In (a ∷ w) W × (moved_up p a ≡ x)
@@ -138,7 +138,7 @@ module _ (p : ℕ) (W : List (List ℕ)) (leaf : In (p ∷ []) W) (d : IsDense W
   high_from : (a x y : ℕ) → p + 1 < y → y < x → moved_up p a ≡ x → a + 1 ≡ x
   high_from a x y l m e =
       elim (nat_lt p a) as (λ t. nat_lt p a ≡ t → (if t then a + 1 else a) ≡ x → a + 1 ≡ x) [
-          true ↦ λ f h. h
+        | true ↦ λ f h. h
         | false ↦ λ f h. let k = ltb-false p a f in absurd (omega arith)
       ] refl e
 
@@ -152,17 +152,17 @@ module _ (p : ℕ) (W : List (List ℕ)) (leaf : In (p ∷ []) W) (d : IsDense W
   leaf_siblings x y w (inl e) l = let is : x ≡ p + 1 = cc in low_leaf y (omega arith)
   leaf_siblings x y w (inr h) l =
       elim (bool_tells (nat_lt (p + 1) y)) [
-          inl t ↦
-          let high : p + 1 < y = ltb-true (p + 1) y t in
-          let (a, i, e) = room_from x w h in
-          let is : a + 1 ≡ x = high_from a x y high l e in
-          let less : y - 1 < a = omega arith in
-          let (u, k) = d [] a (y - 1) w i less in
-          (u, in_room ((y - 1) ∷ u) (y ∷ u) k (room_high p (y - 1) u (omega arith) ∙ ap (λ n. n ∷ u) (omega arith)))
+        | inl t ↦
+            let high : p + 1 < y = ltb-true (p + 1) y t in
+            let (a, i, e) = room_from x w h in
+            let is : a + 1 ≡ x = high_from a x y high l e in
+            let less : y - 1 < a = omega arith in
+            let (u, k) = d [] a (y - 1) w i less in
+            (u, in_room ((y - 1) ∷ u) (y ∷ u) k (room_high p (y - 1) u (omega arith) ∙ ap (λ n. n ∷ u) (omega arith)))
         | inr f ↦ elim (bool_tells (y == p + 1)) [
-            inl t ↦ ([], inl (ap (λ n. n ∷ []) (eqb-true y (p + 1) t)))
+          | inl t ↦ ([], inl (ap (λ n. n ∷ []) (eqb-true y (p + 1) t)))
           | inr g ↦ let low : y ≤ p + 1 = ltb-false (p + 1) y f in let ne : y ≢ p + 1 = eqb-false y (p + 1) g in low_leaf y (omega arith)
-          ]
+        ]
       ]
 
   pub leaf_dense : DenseSet (WithNextLeaf p W)

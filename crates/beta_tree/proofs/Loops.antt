@@ -44,15 +44,15 @@ pub split_kinds : (p c : ℕ) (G : List ℕ → Type 0) → G [] → ((x : ℕ) 
 split_kinds p c G none earlier later leaf before from [] = none
 split_kinds p c G none earlier later leaf before from (x ∷ w) =
     elim (bool_tells (nat_lt x p)) [
-        inl t ↦ earlier x w (ltb-true x p t)
+      | inl t ↦ earlier x w (ltb-true x p t)
       | inr f ↦ elim (bool_tells (nat_lt p x)) [
-          inl t ↦ later x w (ltb-true p x t)
+        | inl t ↦ later x w (ltb-true p x t)
         | inr g ↦
-          let low : p ≤ x = ltb-false x p f in
-          let high : x ≤ p = ltb-false p x g in
-          let same : p ≡ x = omega arith in
-          subst (λ n. G (n ∷ w)) same (split_rest p c G leaf before from w)
-        ]
+            let low : p ≤ x = ltb-false x p f in
+            let high : x ≤ p = ltb-false p x g in
+            let same : p ≡ x = omega arith in
+            subst (λ n. G (n ∷ w)) same (split_rest p c G leaf before from w)
+      ]
     ]
 
 pub join_kinds : (p : ℕ) (G : List ℕ → Type 0) → G [] → ((x : ℕ) (w : List ℕ) → x ≤ p → G (x ∷ w)) → ((x : ℕ) (w : List ℕ) → p + 1 < x → G (x ∷ w)) → G ((p + 1) ∷ []) → ((y : ℕ) (w : List ℕ) → G ((p + 1) ∷ (y ∷ w))) → (v : List ℕ) → G v
@@ -64,12 +64,12 @@ join_kinds p G none earlier later leaf next v =
 pub join_split : (p c : ℕ) (v : List ℕ) → join_loops p c (split_loop p c v) ≡ v
 join_split p c =
     split_kinds p c (λ v. join_loops p c (split_loop p c v) ≡ v)
-        refl
-        (λ x w l. ap (join_loops p c) (split_earlier p c x w l) ∙ join_earlier p c x w (omega arith))
-        (λ x w l. ap (join_loops p c) (split_later p c x w l) ∙ (join_later p c (x + 1) w (omega arith) ∙ ap (λ n. n ∷ w) (omega arith)))
-        (ap (join_loops p c) (split_leaf_stays p c) ∙ join_earlier p c p [] (omega arith))
-        (λ y w l. ap (join_loops p c) (split_before p c y w l) ∙ join_earlier p c p (y ∷ w) (omega arith))
-        (λ y w l. ap (join_loops p c) (split_from p c y w l) ∙ (join_next p c (y - c) w ∙ ap (λ n. p ∷ (n ∷ w)) (omega arith)))
+    refl
+    (λ x w l. ap (join_loops p c) (split_earlier p c x w l) ∙ join_earlier p c x w (omega arith))
+    (λ x w l. ap (join_loops p c) (split_later p c x w l) ∙ (join_later p c (x + 1) w (omega arith) ∙ ap (λ n. n ∷ w) (omega arith)))
+    (ap (join_loops p c) (split_leaf_stays p c) ∙ join_earlier p c p [] (omega arith))
+    (λ y w l. ap (join_loops p c) (split_before p c y w l) ∙ join_earlier p c p (y ∷ w) (omega arith))
+    (λ y w l. ap (join_loops p c) (split_from p c y w l) ∙ (join_next p c (y - c) w ∙ ap (λ n. p ∷ (n ∷ w)) (omega arith)))
 
 split_of_same : (p n x : ℕ) (w : List ℕ) → x ≡ p → (x ∷ w ≢ p ∷ []) → ((y : ℕ) (u : List ℕ) → x ∷ w ≡ p ∷ (y ∷ u) → y < n) → split_loop p n (x ∷ w) ≡ x ∷ w
 split_of_same p n x [] same a h = absurd (a (cc))
@@ -80,22 +80,22 @@ split_of_same p n x (y ∷ w) same a h =
 split_of_earlier : (p n x : ℕ) (w : List ℕ) → x ≤ p → (x ∷ w ≢ p ∷ []) → ((y : ℕ) (u : List ℕ) → x ∷ w ≡ p ∷ (y ∷ u) → y < n) → split_loop p n (x ∷ w) ≡ x ∷ w
 split_of_earlier p n x w l a h =
     elim (bool_tells (nat_lt x p)) [
-        inl t ↦ split_earlier p n x w (ltb-true x p t)
+      | inl t ↦ split_earlier p n x w (ltb-true x p t)
       | inr f ↦
-        let low : p ≤ x = ltb-false x p f in
-        let same : x ≡ p = omega arith in
-        split_of_same p n x w same a h
+          let low : p ≤ x = ltb-false x p f in
+          let same : x ≡ p = omega arith in
+          split_of_same p n x w same a h
     ]
 
 -- in a tree where p has the children below n, and neither p nor the sibling after it is a leaf
 pub split_join : (p n : ℕ) (v : List ℕ) → (v ≢ p ∷ []) → (v ≢ (p + 1) ∷ []) → ((y : ℕ) (w : List ℕ) → v ≡ p ∷ (y ∷ w) → y < n) → split_loop p n (join_loops p n v) ≡ v
 split_join p n =
     join_kinds p (λ v. (v ≢ p ∷ []) → (v ≢ (p + 1) ∷ []) → ((y : ℕ) (w : List ℕ) → v ≡ p ∷ (y ∷ w) → y < n) → split_loop p n (join_loops p n v) ≡ v)
-        (λ a b h. refl)
-        (λ x w l a b h. ap (split_loop p n) (join_earlier p n x w l) ∙ split_of_earlier p n x w l a h)
-        (λ x w l a b h. ap (split_loop p n) (join_later p n x w l) ∙ (split_later p n (x - 1) w (omega arith) ∙ ap (λ k. k ∷ w) (omega arith)))
-        (λ a b h. absurd (b refl))
-        (λ y w a b h. ap (split_loop p n) (join_next p n y w) ∙ (split_from p n (y + n) w (omega arith) ∙ ap (λ k. (p + 1) ∷ (k ∷ w)) (omega arith)))
+    (λ a b h. refl)
+    (λ x w l a b h. ap (split_loop p n) (join_earlier p n x w l) ∙ split_of_earlier p n x w l a h)
+    (λ x w l a b h. ap (split_loop p n) (join_later p n x w l) ∙ (split_later p n (x - 1) w (omega arith) ∙ ap (λ k. k ∷ w) (omega arith)))
+    (λ a b h. absurd (b refl))
+    (λ y w a b h. ap (split_loop p n) (join_next p n y w) ∙ (split_from p n (y + n) w (omega arith) ∙ ap (λ k. (p + 1) ∷ (k ∷ w)) (omega arith)))
 
 -- a member of the split tree comes from a member of the old one
 pub from_split : (p c : ℕ) (W : List (List ℕ)) (u : List ℕ) → In u (map (split_loop p c) W) → In (join_loops p c u) W
@@ -124,7 +124,7 @@ apart_children p n [] (y ∷ v) a = absurd (elim a [ inl ne ↦ ne refl | inr b 
 apart_children p n (x ∷ u) [] a = absurd (elim a [ inl ne ↦ ne refl | inr b ↦ b ])
 apart_children p n (x ∷ u) (y ∷ v) a =
     elim (apart_tail p p ((x + n) ∷ u) ((y + n) ∷ v) refl a) [
-        inl ne ↦ inl (λ e. ne (ap (λ k. k + n) e))
+      | inl ne ↦ inl (λ e. ne (ap (λ k. k + n) e))
       | inr b ↦ inr b
     ]
 
@@ -136,14 +136,14 @@ apart_join p n [] v a = absurd a
 apart_join p n (x ∷ u) [] a = absurd (no_apart_nil (join_loops p n (x ∷ u)) a)
 apart_join p n (x ∷ u) (y ∷ v) a =
     elim (bool_tells (x == y)) [
-        inr f ↦ inl (eqb-false x y f)
+      | inr f ↦ inl (eqb-false x y f)
       | inl t ↦
-        let same : x ≡ y = eqb-true x y t in
-        elim (bool_tells (y == p + 1)) [
-            inl e ↦
-            let next : y ≡ p + 1 = eqb-true y (p + 1) e in
-            let both : x ≡ p + 1 = same ∙ next in
-            inr (apart_appended p n u v (subst (λ k. Apart (join_loops p n ((p + 1) ∷ u)) (join_loops p n (k ∷ v))) next (subst (λ k. Apart (join_loops p n (k ∷ u)) (join_loops p n (y ∷ v))) both a)))
-          | inr g ↦ inr (apart_moved p n x y u v same (eqb-false y (p + 1) g) a)
-        ]
+          let same : x ≡ y = eqb-true x y t in
+          elim (bool_tells (y == p + 1)) [
+            | inl e ↦
+                let next : y ≡ p + 1 = eqb-true y (p + 1) e in
+                let both : x ≡ p + 1 = same ∙ next in
+                inr (apart_appended p n u v (subst (λ k. Apart (join_loops p n ((p + 1) ∷ u)) (join_loops p n (k ∷ v))) next (subst (λ k. Apart (join_loops p n (k ∷ u)) (join_loops p n (y ∷ v))) both a)))
+            | inr g ↦ inr (apart_moved p n x y u v same (eqb-false y (p + 1) g) a)
+          ]
     ]

@@ -21,7 +21,7 @@ all_below : (n : ℕ) (order : List ℕ) → has_all_below n order ≡ true → 
 all_below zero order h k l = absurd (omega arith)
 all_below (suc n) order h k l =
     elim (bool_tells (k == n)) [
-        inl t ↦ rw (eqb-true k n t) (and_left (list_any (eqb n) order) (has_all_below n order) h)
+      | inl t ↦ rw (eqb-true k n t) (and_left (list_any (eqb n) order) (has_all_below n order) h)
       | inr f ↦ let ne : k ≢ n = eqb-false k n f in all_below n order (and_right (list_any (eqb n) order) (has_all_below n order) h) k (omega arith)
     ]
 
@@ -78,22 +78,22 @@ pub entry_at_place : (a : ℕ) (xs : List ℕ) → In a xs → entry_at xs (plac
 entry_at_place a [] h = absurd h
 entry_at_place a (x ∷ xs) h =
     elim (x == a) as (λ t. (x == a) ≡ t → entry_at (x ∷ xs) (if t then 0 else place_of a xs + 1) ≡ a) [
-        true ↦ λ e. eqb-true x a e
+      | true ↦ λ e. eqb-true x a e
       | false ↦ λ e.
-        let more : In a xs = elim h [ inl same ↦ absurd (eqb-false x a e same) | inr k ↦ k ] in
-        let next : place_of a xs + 1 ≡ suc (place_of a xs) = omega arith in
-        rw next (entry_at_place a xs more)
+          let more : In a xs = elim h [ inl same ↦ absurd (eqb-false x a e same) | inr k ↦ k ] in
+          let next : place_of a xs + 1 ≡ suc (place_of a xs) = omega arith in
+          rw next (entry_at_place a xs more)
     ] refl
 
 pub place_below : (a : ℕ) (xs : List ℕ) → In a xs → place_of a xs < length xs
 place_below a [] h = absurd h
 place_below a (x ∷ xs) h =
     elim (x == a) as (λ t. (x == a) ≡ t → (if t then 0 else place_of a xs + 1) < length (x ∷ xs)) [
-        true ↦ λ e. omega arith
+      | true ↦ λ e. omega arith
       | false ↦ λ e.
-        let more : In a xs = elim h [ inl same ↦ absurd (eqb-false x a e same) | inr k ↦ k ] in
-        let less = place_below a xs more in
-        omega arith
+          let more : In a xs = elim h [ inl same ↦ absurd (eqb-false x a e same) | inr k ↦ k ] in
+          let less = place_below a xs more in
+          omega arith
     ] refl
 
 place_first : (xs : List ℕ) (i : ℕ) → i < length xs → place_of (entry_at xs i) xs ≤ i
@@ -101,7 +101,7 @@ place_first [] i l = absurd (omega arith)
 place_first (x ∷ xs) zero l = rw (same_yes x) (omega arith)
 place_first (x ∷ xs) (suc i) l =
     elim (x == entry_at xs i) as (λ t. (if t then 0 else place_of (entry_at xs i) xs + 1) ≤ suc i) [
-        true ↦ omega arith
+      | true ↦ omega arith
       | false ↦ let low = place_first xs i (omega arith) in omega arith
     ]
 
@@ -111,31 +111,31 @@ place_of_entry n order o i l =
     let within : i < length order = let e = o.long in omega arith in
     let low = place_first order i within in
     elim (bool_tells (nat_lt (place_of (entry_at order i) order) i)) [
-        inr f ↦ let high = ltb-false (place_of (entry_at order i) order) i f in omega arith
+      | inr f ↦ let high = ltb-false (place_of (entry_at order i) order) i f in omega arith
       | inl t ↦
-        let less : place_of (entry_at order i) order < i = ltb-true (place_of (entry_at order i) order) i t in
-        let twice : In (entry_at order i) (without_at order i) =
-            in_before order (place_of (entry_at order i) order) i less within (entry_at_place (entry_at order i) order (in_entry order i within)) in
-        let short = length_without order i within in
-        let long = le-length_from_below (without_at order i) n (λ q m. member_from_In eqb eqb-true same_yes q (without_at order i)
-            (elim (in_without q order i (o.all q m)) [ inl e ↦ subst (λ z. In z (without_at order i)) e twice | inr k ↦ k ])) in
-        let e = o.long in
-        absurd (omega arith)
+          let less : place_of (entry_at order i) order < i = ltb-true (place_of (entry_at order i) order) i t in
+          let twice : In (entry_at order i) (without_at order i) =
+          in_before order (place_of (entry_at order i) order) i less within (entry_at_place (entry_at order i) order (in_entry order i within)) in
+          let short = length_without order i within in
+          let long = le-length_from_below (without_at order i) n (λ q m. member_from_In eqb eqb-true same_yes q (without_at order i)
+          (elim (in_without q order i (o.all q m)) [ inl e ↦ subst (λ z. In z (without_at order i)) e twice | inr k ↦ k ])) in
+          let e = o.long in
+          absurd (omega arith)
     ]
 
 -- each entry of a permutation of the numbers below n is below n
 pub entry_below : (n : ℕ) (order : List ℕ) → Orders n order → (i : ℕ) → i < n → entry_at order i < n
 entry_below n order o i l =
     elim (bool_tells (nat_lt (entry_at order i) n)) [
-        inl t ↦ ltb-true (entry_at order i) n t
+      | inl t ↦ ltb-true (entry_at order i) n t
       | inr f ↦
-        let high = ltb-false (entry_at order i) n f in
-        let within : i < length order = let e = o.long in omega arith in
-        let short = length_without order i within in
-        let long = le-length_from_below (without_at order i) n (λ q m. member_from_In eqb eqb-true same_yes q (without_at order i)
-            (elim (in_without q order i (o.all q m)) [ inl e ↦ absurd (omega arith) | inr k ↦ k ])) in
-        let e = o.long in
-        absurd (omega arith)
+          let high = ltb-false (entry_at order i) n f in
+          let within : i < length order = let e = o.long in omega arith in
+          let short = length_without order i within in
+          let long = le-length_from_below (without_at order i) n (λ q m. member_from_In eqb eqb-true same_yes q (without_at order i)
+          (elim (in_without q order i (o.all q m)) [ inl e ↦ absurd (omega arith) | inr k ↦ k ])) in
+          let e = o.long in
+          absurd (omega arith)
     ]
 
 -- the children of a loop, which are the numbers below n
@@ -175,9 +175,9 @@ pub lacks_below : (n : ℕ) (order : List ℕ) (k : ℕ) → k < n → list_any 
 lacks_below zero order k l h = absurd (omega arith)
 lacks_below (suc n) order k l h =
     elim (bool_tells (k == n)) [
-        inl t ↦ let e : list_any (eqb n) order ≡ false = subst (λ z. list_any (eqb z) order ≡ false) (eqb-true k n t) h in rw e refl
+      | inl t ↦ let e : list_any (eqb n) order ≡ false = subst (λ z. list_any (eqb z) order ≡ false) (eqb-true k n t) h in rw e refl
       | inr f ↦
-        let ne : k ≢ n = eqb-false k n f in
-        let e = lacks_below n order k (omega arith) h in
-        elim (list_any (eqb n) order) as (λ b. (b && has_all_below n order) ≡ false) [ true ↦ e | false ↦ refl ]
+          let ne : k ≢ n = eqb-false k n f in
+          let e = lacks_below n order k (omega arith) h in
+          elim (list_any (eqb n) order) as (λ b. (b && has_all_below n order) ≡ false) [ true ↦ e | false ↦ refl ]
     ]

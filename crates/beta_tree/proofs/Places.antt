@@ -39,7 +39,7 @@ after_is [] v w e = cc
 after_is (p ∷ P) [] w e = absurd (cc)
 after_is (p ∷ P) (x ∷ v) w e =
     elim (x == p) as (λ t. (x == p) ≡ t → (if t then after P v else None) ≡ Some w → x ∷ v ≡ p ∷ (P ++ w)) [
-        true ↦ λ t h. let same = eqb-true x p t in let more = after_is P v w h in cc
+      | true ↦ λ t h. let same = eqb-true x p t in let more = after_is P v w h in cc
       | false ↦ λ t h. absurd (cc)
     ] refl e
 
@@ -60,7 +60,7 @@ pub from_In-under : (P w : List ℕ) (V : List (List ℕ)) → In w (under P V) 
 from_In-under P w [] h = absurd h
 from_In-under P w (v ∷ V) h =
     elim (after P v) as (λ o. after P v ≡ o → In w (cons_option o (under P V)) → (v ≡ P ++ w) ⊎ In (P ++ w) V) [
-        None ↦ λ e i. inr (from_In-under P w V i)
+      | None ↦ λ e i. inr (from_In-under P w V i)
       | Some u ↦ λ e i. elim i [ inl same ↦ inl (after_is P v u e ∙ ap (λ t. P ++ t) same) | inr more ↦ inr (from_In-under P w V more) ]
     ] refl h
 
@@ -95,6 +95,6 @@ below_other [] f v e = absurd (cc)
 below_other (p ∷ P) f [] e = refl
 below_other (p ∷ P) f (x ∷ v) e =
     elim (x == p) as (λ t. (if t then after P v else None) ≡ None → (if t then x ∷ below P f v else x ∷ v) ≡ x ∷ v) [
-        true ↦ λ h. ap (λ t. x ∷ t) (below_other P f v h)
+      | true ↦ λ h. ap (λ t. x ∷ t) (below_other P f v h)
       | false ↦ λ h. refl
     ] e

@@ -34,7 +34,7 @@ split_two p c [] l = absurd (omega arith)
 split_two p c (x ∷ []) l = absurd (omega arith)
 split_two p c (x ∷ (y ∷ w)) l =
     elim (x == p) as (λ t. (if t then split_children p c (y ∷ w) else moved_up p x ∷ (y ∷ w)) ≡ (if t then split_children p c (y ∷ []) else moved_up p x ∷ (y ∷ [])) ++ w) [
-        true ↦ elim (nat_lt y c) as (λ t. (if t then p ∷ (y ∷ w) else (p + 1) ∷ ((y - c) ∷ w)) ≡ (if t then p ∷ (y ∷ []) else (p + 1) ∷ ((y - c) ∷ [])) ++ w) [ true ↦ refl | false ↦ refl ]
+      | true ↦ elim (nat_lt y c) as (λ t. (if t then p ∷ (y ∷ w) else (p + 1) ∷ ((y - c) ∷ w)) ≡ (if t then p ∷ (y ∷ []) else (p + 1) ∷ ((y - c) ∷ [])) ++ w) [ true ↦ refl | false ↦ refl ]
       | false ↦ refl
     ]
 
@@ -46,7 +46,7 @@ split_one p c [] l = absurd (omega arith)
 split_one p c (x ∷ (y ∷ w)) l = absurd (omega arith)
 split_one p c (x ∷ []) l =
     elim (x == p) as (λ t. (x == p) ≡ t → (if t then split_children p c [] else moved_up p x ∷ []) ≡ moved_up p x ∷ []) [
-        true ↦ λ e. ap (λ n. n ∷ []) (moved_same p x e)
+      | true ↦ λ e. ap (λ n. n ∷ []) (moved_same p x e)
       | false ↦ λ e. refl
     ] refl
 
@@ -64,7 +64,7 @@ join_one p n [] l = absurd (omega arith)
 join_one p n (x ∷ (y ∷ w)) l = absurd (omega arith)
 join_one p n (x ∷ []) l =
     elim (x == p + 1) as (λ t. (x == p + 1) ≡ t → (if t then appended_children p n [] else moved_down p x ∷ []) ≡ moved_down p x ∷ []) [
-        true ↦ λ e. ap (λ m. m ∷ []) (moved_next p x e)
+      | true ↦ λ e. ap (λ m. m ∷ []) (moved_next p x e)
       | false ↦ λ e. refl
     ] refl
 
@@ -73,8 +73,8 @@ pub longer_at : (P : List ℕ) (k i : ℕ) (V : List (List ℕ)) (v d : List ℕ
 longer_at P k i V v d h l e s =
     let here : In v (drop i V) = rw (drop-cons V i d l) (inl (sym e)) in
     elim (after P v) as (λ o. after P v ≡ o → is_some o ≡ true → k < length v) [
-        Some w ↦ λ f g.
-            let is : v ≡ P ++ w = after_is P v w f in
-            rw is (h w (subst (λ z. In z (drop i V)) is here))
+      | Some w ↦ λ f g.
+          let is : v ≡ P ++ w = after_is P v w f in
+          rw is (h w (subst (λ z. In z (drop i V)) is here))
       | None ↦ λ f g. absurd (cc)
     ] refl s

@@ -146,9 +146,9 @@ fission_tree Q p c V t loop first within =
     let (w, i) = under_front Q p V (loop_some (Q ++ p ∷ []) V loop) in
     let (u, k) = child_exists (Q ++ p ∷ []) c V t.dense within in
     let splits : SplitsAt p c (under Q V) = record {
-        leafless = leafless_front Q p V loop;
-        first = first;
-        child = (u, In-under Q (p ∷ (c ∷ u)) V (subst (λ z. In z V) (one_more Q p (c ∷ u)) k));
+      leafless = leafless_front Q p V loop;
+      first = first;
+      child = (u, In-under Q (p ∷ (c ∷ u)) V (subst (λ z. In z V) (one_more Q p (c ∷ u)) k));
     } in
     tree_below Q (split_loop p c) V t (p ∷ w, i) (split_nil p c) (λ a b g h. fission_apart p c a b) (fission_dense p c (under Q V) splits (dense_under Q V t.dense))
 
@@ -169,15 +169,15 @@ fuse_tree Q p V t loop next =
     let (w2, i2) = under_front Q (p + 1) V (loop_some (Q ++ (p + 1) ∷ []) V next) in
     let n : ℕ = children_of (Q ++ p ∷ []) V in
     let joins : JoinsAt p (children_of (Q ++ p ∷ []) V) (under Q V) = record {
-        leafless = leafless_front Q p V loop;
-        next_leafless = leafless_front Q (p + 1) V next;
-        next = (w2, i2);
-        below_n = λ y u k. child_below (Q ++ p ∷ []) y u V t.dense (subst (λ z. In z V) (sym (one_more Q p (y ∷ u))) (from_In-under Q (p ∷ (y ∷ u)) V k));
-        child = λ y l. let (u, k) = child_exists (Q ++ p ∷ []) y V t.dense l in (u, In-under Q (p ∷ (y ∷ u)) V (subst (λ z. In z V) (one_more Q p (y ∷ u)) k));
+      leafless = leafless_front Q p V loop;
+      next_leafless = leafless_front Q (p + 1) V next;
+      next = (w2, i2);
+      below_n = λ y u k. child_below (Q ++ p ∷ []) y u V t.dense (subst (λ z. In z V) (sym (one_more Q p (y ∷ u))) (from_In-under Q (p ∷ (y ∷ u)) V k));
+      child = λ y l. let (u, k) = child_exists (Q ++ p ∷ []) y V t.dense l in (u, In-under Q (p ∷ (y ∷ u)) V (subst (λ z. In z V) (one_more Q p (y ∷ u)) k));
     } in
     tree_below Q (join_loops p (children_of (Q ++ p ∷ []) V)) V t (p ∷ w, i) (join_nil p (children_of (Q ++ p ∷ []) V))
-        (fuse_apart p (children_of (Q ++ p ∷ []) V) (under Q V) joins)
-        (fuse_dense p (children_of (Q ++ p ∷ []) V) (under Q V) joins (dense_under Q V t.dense))
+    (fuse_apart p (children_of (Q ++ p ∷ []) V) (under Q V) joins)
+    (fuse_dense p (children_of (Q ++ p ∷ []) V) (under Q V) joins (dense_under Q V t.dense))
 
 -- reorder
 
@@ -189,12 +189,12 @@ pub reorder_tree : (P order : List ℕ) (V : List (List ℕ)) → IsTree V → n
 reorder_tree P order V t some permutes =
     let o = orders_of_test (children_of P V) order permutes in
     let s : ChildrenBelow (children_of P V) (under P V) = record {
-        below_n = λ y w i. child_below P y w V t.dense (from_In-under P (y ∷ w) V i);
-        child = λ y l. let (w, i) = child_exists P y V t.dense l in (w, In-under P (y ∷ w) V i);
+      below_n = λ y w i. child_below P y w V t.dense (from_In-under P (y ∷ w) V i);
+      child = λ y l. let (w, i) = child_exists P y V t.dense l in (w, In-under P (y ∷ w) V i);
     } in
     tree_below P (renumbered order) V t (some_under P V some) (renumbered_nil order)
-        (reorder_apart (children_of P V) order (under P V) o s)
-        (reorder_dense (children_of P V) order (under P V) o s (dense_under P V t.dense))
+    (reorder_apart (children_of P V) order (under P V) o s)
+    (reorder_dense (children_of P V) order (under P V) o s (dense_under P V t.dense))
 
 -- a new level
 
@@ -210,6 +210,6 @@ map_agree f g (x ∷ xs) h = let a = h x in let b = map_agree f g xs h in cc
 pub level_tree : (P : List ℕ) (k : ℕ) (V : List (List ℕ)) → IsTree V → length P ≤ k → ((w : List ℕ) → In (P ++ w) V → k < length (P ++ w)) → no_statement P V ≡ false → IsTree (map (with_level P k) V)
 level_tree P k V t low longer some =
     rw (map_agree (with_level P k) (below P (put_zero (k - length P))) V (λ v. with_level_below P k v low))
-        (tree_below P (put_zero (k - length P)) V t (some_under P V some) (put_zero_nil (k - length P))
-            (λ a b i j h. level_apart (k - length P) a b h)
-            (level_dense (k - length P) (under P V) (λ v i. let l = longer v (from_In-under P v V i) in let e = length-append P v in omega arith) (dense_under P V t.dense)))
+    (tree_below P (put_zero (k - length P)) V t (some_under P V some) (put_zero_nil (k - length P))
+    (λ a b i j h. level_apart (k - length P) a b h)
+    (level_dense (k - length P) (under P V) (λ v i. let l = longer v (from_In-under P v V i) in let e = length-append P v in omega arith) (dense_under P V t.dense)))

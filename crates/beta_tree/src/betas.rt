@@ -5,7 +5,7 @@ ghost use Rattle.std.specs.Option.{option_copied};
 ghost use Rattle.beta_tree.specs.Vectors.{children_of, IsTree, LongerUnder};
 ghost use Rattle.beta_tree.specs.Answers.{HasCause, fission_answer, fuse_answer, reorder_answer, level_answer, leaf_answer};
 
-use crate::copies::joined;
+use crate::copies::next_sibling;
 use crate::looks::{count_children, is_leaf, is_permutation, is_under, split_prefix};
 use crate::rebuilds::{join_all, level_all, reorder_all, split_all, split_leaves};
 use crate::refusals::BetaFail;
@@ -83,6 +83,107 @@ impl Betas {
             return Err(BetaFail::BadArgument);
         }
         self.vectors = split_all(&self.vectors, siblings, p, first)?;
+        Ok(())
+    }
+
+    /// The children of the sibling right after the loop `prefix` follow the children of `prefix`. Later
+    /// siblings move down by one.
+    ///
+    /// `NoBeta` where no vector begins with `prefix`, or none with the sibling after it, then
+    /// `NotALoop` where one of the two is no loop. A refused call leaves the vectors as they were.
+    pub fn fuse(&mut self, prefix: &[u32]) -> Result<(), BetaFail>
+        ensures ok { OnOk result (fuse_answer prefix.now self.old ≡ Ok self.new) }
+        ensures cause { IfErr result (λ e. HasCause e (fuse_answer prefix.now self.old)) }
+        ensures kept { OnErr result (self.new ≡ self.old) }
+        ensures tree { IsTree self.new }
+    {
+        if !is_under(&self.vectors, prefix) {
+            return Err(BetaFail::NoBeta);
+        }
+        let Some((siblings, p)) = split_prefix(prefix) else {
+            return Err(BetaFail::NotALoop);
+        };
+        let next = next_sibling(self.vectors.allocator(), siblings, p)?;
+        if !is_under(&self.vectors, next.as_slice()) {
+            return Err(BetaFail::NoBeta);
+        }
+        if is_leaf(&self.vectors, prefix) {
+            return Err(BetaFail::NotALoop);
+        }
+        if is_leaf(&self.vectors, next.as_slice()) {
+            return Err(BetaFail::NotALoop);
+        }
+        let count = count_children(&self.vectors, prefix) as u32;
+        self.vectors = join_all(&self.vectors, siblings, p, count)?;
+        Ok(())
+    }
+
+    /// The children of `prefix` come into the order that `order` lists: entry `j` is the old number of
+    /// the child that gets number `j`.
+    ///
+    /// `NoBeta` where no vector begins with `prefix`, then `NotALoop` where a vector equals it, then
+    /// `BadArgument` where `order` doesn't have each number below the number of children once. A
+    /// refused call leaves the vectors as they were.
+    pub fn reorder(&mut self, prefix: &[u32], order: &[u32]) -> Result<(), BetaFail>
+        ensures ok { OnOk result (reorder_answer prefix.now order.now self.old ≡ Ok self.new) }
+        ensures cause { IfErr result (λ e. HasCause e (reorder_answer prefix.now order.now self.old)) }
+        ensures kept { OnErr result (self.new ≡ self.old) }
+        ensures tree { IsTree self.new }
+    {
+        if !is_under(&self.vectors, prefix) {
+            return Err(BetaFail::NoBeta);
+        }
+        if is_leaf(&self.vectors, prefix) {
+            return Err(BetaFail::NotALoop);
+        }
+        if !is_permutation(order, count_children(&self.vectors, prefix)) {
+            return Err(BetaFail::BadArgument);
+        }
+        self.vectors = reorder_all(&self.vectors, prefix, order)?;
+        Ok(())
+    }
+
+    /// A new loop with the one child 0 at place `level`, from 0, of each vector that begins with
+    /// `prefix`: a 0 comes before its entry there.
+    ///
+    /// `NoBeta` where no vector begins with `prefix`. A refused call leaves the vectors as they were.
+    pub fn insert_level(&mut self, prefix: &[u32], level: usize) -> Result<(), BetaFail>
+        requires below { length prefix.now ≤ level }
+        requires longer { LongerUnder prefix.now level self.old }
+        ensures ok { OnOk result (level_answer prefix.now level self.old ≡ Ok self.new) }
+        ensures cause { IfErr result (λ e. HasCause e (level_answer prefix.now level self.old)) }
+        ensures kept { OnErr result (self.new ≡ self.old) }
+        ensures tree { IsTree self.new }
+    {
+        if !is_under(&self.vectors, prefix) {
+            return Err(BetaFail::NoBeta);
+        }
+        self.vectors = level_all(&self.vectors, prefix, level)?;
+        Ok(())
+    }
+
+    /// A new vector after `vector`, with a last entry one higher. Later siblings of `vector` move up by
+    /// one, with all that stands below them.
+    ///
+    /// `NoBeta` where no vector begins with `vector`, then `BadArgument` where none equals it. A
+    /// refused call leaves the vectors as they were.
+    pub fn split_leaf(&mut self, vector: &[u32]) -> Result<(), BetaFail>
+        requires { length self.old < 2 ^ 32 - 1 }
+        ensures ok { OnOk result (leaf_answer vector.now self.old ≡ Ok self.new) }
+        ensures cause { IfErr result (λ e. HasCause e (leaf_answer vector.now self.old)) }
+        ensures kept { OnErr result (self.new ≡ self.old) }
+        ensures tree { IsTree self.new }
+    {
+        if !is_under(&self.vectors, vector) {
+            return Err(BetaFail::NoBeta);
+        }
+        if !is_leaf(&self.vectors, vector) {
+            return Err(BetaFail::BadArgument);
+        }
+        let Some((siblings, p)) = split_prefix(vector) else {
+            return Err(BetaFail::BadArgument);
+        };
+        self.vectors = split_leaves(&self.vectors, vector, siblings, p)?;
         Ok(())
     }
 }

@@ -32,7 +32,13 @@ fn split_pair(p: u32, first: u32, x: u32, y: u32) -> [u32; 2]
 }
 
 /// `siblings`, and then `rest` after the fission of `p` at its child `first`.
-fn split_rest(alloc: Global, siblings: &[u32], p: u32, first: u32, rest: &[u32]) -> Result<List<u32>, NoMemory>
+fn split_rest(
+    alloc: Global,
+    siblings: &[u32],
+    p: u32,
+    first: u32,
+    rest: &[u32],
+) -> Result<List<u32>, NoMemory>
     requires { Fit (split_loop p first rest.now) }
     ensures { IfOk result (λ made. made ≡ siblings.now ++ split_loop p first rest.now) }
 {
@@ -44,7 +50,13 @@ fn split_rest(alloc: Global, siblings: &[u32], p: u32, first: u32, rest: &[u32])
 }
 
 /// `vector` after the fission of `p` after `siblings` at its child `first`.
-pub fn split_vector(alloc: Global, siblings: &[u32], p: u32, first: u32, vector: &[u32]) -> Result<List<u32>, NoMemory>
+pub fn split_vector(
+    alloc: Global,
+    siblings: &[u32],
+    p: u32,
+    first: u32,
+    vector: &[u32],
+) -> Result<List<u32>, NoMemory>
     requires { Fit (below siblings.now (split_loop p first) vector.now) }
     ensures { IfOk result (λ made. made ≡ below siblings.now (split_loop p first) vector.now) }
 {
@@ -71,7 +83,13 @@ fn join_pair(p: u32, count: u32, x: u32, y: u32) -> [u32; 2]
 
 /// `siblings`, and then `rest` after the fuse of `p`, which has `count` children, with the sibling
 /// after it.
-fn join_rest(alloc: Global, siblings: &[u32], p: u32, count: u32, rest: &[u32]) -> Result<List<u32>, NoMemory>
+fn join_rest(
+    alloc: Global,
+    siblings: &[u32],
+    p: u32,
+    count: u32,
+    rest: &[u32],
+) -> Result<List<u32>, NoMemory>
     requires { Fit (join_loops p count rest.now) }
     ensures { IfOk result (λ made. made ≡ siblings.now ++ join_loops p count rest.now) }
 {
@@ -85,7 +103,13 @@ fn join_rest(alloc: Global, siblings: &[u32], p: u32, count: u32, rest: &[u32]) 
 
 /// `vector` after the fuse of `p` after `siblings`, which has `count` children, with the sibling after
 /// it.
-pub fn join_vector(alloc: Global, siblings: &[u32], p: u32, count: u32, vector: &[u32]) -> Result<List<u32>, NoMemory>
+pub fn join_vector(
+    alloc: Global,
+    siblings: &[u32],
+    p: u32,
+    count: u32,
+    vector: &[u32],
+) -> Result<List<u32>, NoMemory>
     requires { Fit (below siblings.now (join_loops p count) vector.now) }
     ensures { IfOk result (λ made. made ≡ below siblings.now (join_loops p count) vector.now) }
 {
@@ -108,7 +132,12 @@ fn place(order: &[u32], child: u32) -> usize
 }
 
 /// `prefix`, and then `rest` with the place in `order` of its first entry in place of that.
-fn reorder_rest(alloc: Global, prefix: &[u32], order: &[u32], rest: &[u32]) -> Result<List<u32>, NoMemory>
+fn reorder_rest(
+    alloc: Global,
+    prefix: &[u32],
+    order: &[u32],
+    rest: &[u32],
+) -> Result<List<u32>, NoMemory>
     requires { Fit (renumbered order.now rest.now) }
     ensures { IfOk result (λ made. made ≡ prefix.now ++ renumbered order.now rest.now) }
 {
@@ -119,7 +148,12 @@ fn reorder_rest(alloc: Global, prefix: &[u32], order: &[u32], rest: &[u32]) -> R
 }
 
 /// `vector` after the children of `prefix` got their places in `order` as numbers.
-pub fn reorder_vector(alloc: Global, prefix: &[u32], order: &[u32], vector: &[u32]) -> Result<List<u32>, NoMemory>
+pub fn reorder_vector(
+    alloc: Global,
+    prefix: &[u32],
+    order: &[u32],
+    vector: &[u32],
+) -> Result<List<u32>, NoMemory>
     requires { Fit (reordered prefix.now order.now vector.now) }
     ensures { IfOk result (λ made. made ≡ reordered prefix.now order.now vector.now) }
 {
@@ -130,7 +164,12 @@ pub fn reorder_vector(alloc: Global, prefix: &[u32], order: &[u32], vector: &[u3
 }
 
 /// `vector` with a 0 at place `level` where it begins with `prefix`; it is longer than that then.
-pub fn level_vector(alloc: Global, prefix: &[u32], level: usize, vector: &[u32]) -> Result<List<u32>, NoMemory>
+pub fn level_vector(
+    alloc: Global,
+    prefix: &[u32],
+    level: usize,
+    vector: &[u32],
+) -> Result<List<u32>, NoMemory>
     requires { is_some (what_follows prefix.now vector.now) ≡ true → level < length vector.now }
     ensures { IfOk result (λ made. made ≡ with_level prefix.now level vector.now) }
 {
@@ -153,7 +192,12 @@ fn room_rest(alloc: Global, siblings: &[u32], p: u32, rest: &[u32]) -> Result<Li
 }
 
 /// `vector` after room for a new leaf was made right after the leaf `p` after `siblings`.
-pub fn room_vector(alloc: Global, siblings: &[u32], p: u32, vector: &[u32]) -> Result<List<u32>, NoMemory>
+pub fn room_vector(
+    alloc: Global,
+    siblings: &[u32],
+    p: u32,
+    vector: &[u32],
+) -> Result<List<u32>, NoMemory>
     requires { Fit (below siblings.now (make_room p) vector.now) }
     ensures { IfOk result (λ made. made ≡ below siblings.now (make_room p) vector.now) }
 {
