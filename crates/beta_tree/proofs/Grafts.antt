@@ -88,11 +88,11 @@ dense_below Q f V some d e = graft_dense Q (λ v. In v V) (λ v. In v (map (belo
 
 -- prefix-freeness
 
-pub apart_map : (f : List ℕ → List ℕ) (v : List ℕ) (V : List (List ℕ)) → ((w : List ℕ) → In w V → Apart v w → Apart (f v) (f w)) → ApartFromAll v V → ApartFromAll (f v) (map f V)
+pub apart_map : {A B : Type 0} (f : List A → List B) (v : List A) (V : List (List A)) → ((w : List A) → In w V → Apart v w → Apart (f v) (f w)) → ApartFromAll v V → ApartFromAll (f v) (map f V)
 apart_map f v [] h a = tt
 apart_map f v (w ∷ V) h a = (h w (inl refl) a.0, apart_map f v V (λ z i. h z (inr i)) a.1)
 
-pub free_map : (f : List ℕ → List ℕ) (V : List (List ℕ)) → ((v w : List ℕ) → In v V → In w V → Apart v w → Apart (f v) (f w)) → PrefixFree V → PrefixFree (map f V)
+pub free_map : {A B : Type 0} (f : List A → List B) (V : List (List A)) → ((v w : List A) → In v V → In w V → Apart v w → Apart (f v) (f w)) → PrefixFree V → PrefixFree (map f V)
 free_map f [] h p = tt
 free_map f (v ∷ V) h p = (apart_map f v V (λ w i. h v w (inl refl) (inr i)) p.0, free_map f V (λ a b i j. h a b (inr i) (inr j)) p.1)
 

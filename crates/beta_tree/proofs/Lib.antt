@@ -12,3 +12,4 @@ pub mod Trees
 pub mod Leaves
 pub mod Steps
 pub mod Calls
+pub mod Dense
