@@ -1,14 +1,14 @@
 -- What each call answers where nothing refuses it: the stated answer, which is a tree again.
-use Rattle.std.proofs.Common.{◌≡◌, ◌≢◌, ℕ, ◌+◌, ◌-◌, ◌<◌, ◌≤◌, ◌^◌, ◌==◌, nat_lt, Bool, true, false, if◌then◌else◌, not, ◌&&◌, Result, Ok, Err, List, [], ◌∷◌, ◌++◌, length, map, refl, sym, ◌∙◌, ap, subst, arith, inl, inr, append_assoc}
+use Rattle.std.proofs.Common.{◌≡◌, ℕ, ◌+◌, ◌<◌, ◌≤◌, ◌^◌, true, false, if◌then◌else◌, not, ◌&&◌, Result, Ok, Err, List, [], ◌∷◌, ◌++◌, length, map, refl, sym, ◌∙◌, ap, subst, arith, inl, inr, append_assoc}
 use Rattle.std.specs.List.{flat_map}
 use Rattle.std.proofs.lemmas.Bool.{lt-ltb}
 use Rattle.beta_tree.specs.declared.refusals.BetaFail.{BetaFail}
 use Rattle.beta_tree.specs.declared.refusals.BetaFail.TheVariants.{NoBeta, NotALoop}
-use Rattle.beta_tree.specs.Vectors.{under, children_of, is_nil, no_statement, is_leaf, is_loop, In, NoneEmpty, IsTree, Fit, AllFit, LongerUnder}
-use Rattle.beta_tree.specs.Edits.{front, last, next_sibling, below, split_loop, join_loops, fissioned, fused, reordered, is_permutation_of, with_level, make_room, leaf_split}
+use Rattle.beta_tree.specs.Vectors.{children_of, is_nil, no_statement, is_leaf, is_loop, In, IsTree, AllFit, LongerUnder}
+use Rattle.beta_tree.specs.Edits.{below, split_loop, join_loops, fused, reordered, is_permutation_of, with_level, make_room, leaf_split}
 use Rattle.beta_tree.specs.Answers.{fission_answer, fuse_answer, reorder_answer, level_answer, leaf_answer}
-use Rattle.beta_tree.proofs.Places.{bool_tells, In-map, from_In-under, In-under}
-use Rattle.beta_tree.proofs.Trees.{fission_tree, fuse_tree, reorder_tree, level_tree, fit_of_tree, child_below, children_few, leaf_in, some_under, no_leaf}
+use Rattle.beta_tree.proofs.Places.{bool_tells, from_In-under}
+use Rattle.beta_tree.proofs.Trees.{fission_tree, fuse_tree, reorder_tree, level_tree, fit_of_tree, child_below, children_few, leaf_in, some_under}
 use Rattle.beta_tree.proofs.Leaves.{front_of_append, last_of_append, leaf_tree, In-split}
 
 all_fit_of : (V W : List (List ℕ)) → IsTree V → ((v : List ℕ) → In v W → In v V) → AllFit W

@@ -1,5 +1,5 @@
 -- Worked cases of the definitions.
-use Rattle.std.proofs.Common.{◌≡◌, ℕ, ℤ, pos, negsuc, List, [], ◌∷◌, Ok, Err, refl}
+use Rattle.std.proofs.Common.{◌≡◌, ℕ, pos, negsuc, List, [], ◌∷◌, Ok, Err, refl}
 use Rattle.beta_tree.specs.declared.refusals.BetaFail.TheVariants.{NoBeta, NotALoop, BadArgument}
 use Rattle.beta_tree.specs.Vectors.{dense_of, children_of}
 use Rattle.beta_tree.specs.Answers.{fission_answer, fuse_answer, reorder_answer, level_answer, leaf_answer}

@@ -1,15 +1,13 @@
 -- Facts about the number of children in a dense tree.
-use Rattle.std.proofs.Common.{◌≡◌, ◌≢◌, ℕ, zero, suc, ◌+◌, ◌<◌, ◌≤◌, ◌==◌, Bool, true, false, cond, not, ◌&&◌, ◌||◌, ◌⊎◌, inl, inr, List, [], ◌∷◌, ◌++◌, length, map, max, refl, sym, ◌∙◌, ap, subst, arith, eq-eqb, ◌↔◌}
+use Rattle.std.proofs.Common.{◌≡◌, ◌≢◌, ℕ, zero, suc, ◌+◌, ◌<◌, ◌≤◌, ◌==◌, true, false, ◌⊎◌, inl, inr, List, [], ◌∷◌, max, refl, sym, ◌∙◌, arith}
 use Rattle.std.proofs.lemmas.Bool.{eqb-true, eqb-false, ltb-true, ltb-false}
-use Rattle.std.proofs.lemmas.Cmp.{nat_eq_equiv}
-use Rattle.std.proofs.lemmas.Map.Made.{length-from_keys, distinct_count-le}
 use Rattle.std.proofs.lemmas.Map.Steps.{length-le_from_distinct_below, le-length_from_below}
-use Rattle.std.specs.List.{filter_map, list_any, range_with_len, IsDistinct}
-use Rattle.std.specs.Set.{distinct_count, unique_keys, is_member}
+use Rattle.std.specs.List.{list_any}
+use Rattle.std.specs.Set.{distinct_count, unique_keys}
 use Rattle.std.proofs.Math.Dec.{eqb, ltb}
 use Rattle.beta_tree.proofs.Distinct.{member_from_In, In_from_member, member_of_unique, unique_distinct}
-use Rattle.beta_tree.specs.Vectors.{after, under, heads, In, IsDense, IsTree, children_of}
-use Rattle.beta_tree.proofs.Places.{bool_tells, same_yes, same_no, child_of_prefix, vector_of_child}
+use Rattle.beta_tree.specs.Vectors.{In}
+use Rattle.beta_tree.proofs.Places.{bool_tells, same_yes}
 
 eq_or_below : (q x : ℕ) → q < x + 1 → (q ≡ x) ⊎ (q < x)
 eq_or_below q x l = elim (bool_tells (q == x)) [ inl t ↦ inl (eqb-true q x t) | inr f ↦ inr (let ne : q ≢ x = eqb-false q x f in omega arith) ]

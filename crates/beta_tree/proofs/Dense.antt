@@ -1,7 +1,8 @@
 -- The dense numbering makes a tree of vectors of which none is empty or a prefix of another.
-use Rattle.std.proofs.Common.{◌≡◌, ◌≢◌, ℕ, zero, suc, ℤ, pos, ◌<ℤ◌, ◌≤ℤ◌, ◌+◌, ◌<◌, ◌≤◌, ◌^◌, ◌==◌, Bool, true, false, if◌then◌else◌, cond, ◌||◌, ◌⊎◌, inl, inr, List, [], ◌∷◌, ◌++◌, length, map, filter, refl, sym, ◌∙◌, ap, subst, arith, int_lt}
-use Rattle.std.specs.List.{list_any, IsDistinct}
-use Rattle.std.specs.Set.{distinct_count, unique_keys, is_member}
+use Rattle.std.proofs.Common.{◌≡◌, ◌≢◌, ℕ, zero, suc, ℤ, ◌<ℤ◌, ◌≤ℤ◌, ◌+◌, ◌<◌, ◌≤◌, ◌^◌, ◌==◌, Bool, true, false, if◌then◌else◌, cond, ◌||◌, ◌⊎◌, inl, inr, List, [], ◌∷◌, ◌++◌, length, map, filter, refl, sym, ◌∙◌, ap, subst, arith, int_lt, drop, get_or, append_assoc, add-one}
+use Rattle.std.proofs.Math.Seq.{drop-cons}
+use Rattle.std.specs.List.{IsDistinct}
+use Rattle.std.specs.Set.{unique_keys, is_member}
 use Rattle.std.specs.Ordering.{int_eq}
 use Rattle.std.proofs.lemmas.Int.{ints}
 use Rattle.std.proofs.lemmas.Bool.{eqb-true, eqb-false}
@@ -42,10 +43,10 @@ from_In-filter : {A : Type 0} (test : A → Bool) (a : A) (xs : List A) → In a
 from_In-filter test a [] h = absurd h
 from_In-filter test a (x ∷ xs) h =
     elim (test x) as (λ b. test x ≡ b → In a (cond b (x ∷ filter test xs) (filter test xs)) → (x ≡ a ⊎ In a xs) × (test a ≡ true)) [
-        true ↦ λ e k. elim k [
-            inl same ↦ (inl same, subst (λ z. test z ≡ true) same e)
-          | inr more ↦ let (i, t) = from_In-filter test a xs more in (inr i, t)
-          ]
+      | true ↦ λ e k. elim k [
+        | inl same ↦ (inl same, subst (λ z. test z ≡ true) same e)
+        | inr more ↦ let (i, t) = from_In-filter test a xs more in (inr i, t)
+      ]
       | false ↦ λ e k. let (i, t) = from_In-filter test a xs k in (inr i, t)
     ] refl h
 
@@ -56,7 +57,7 @@ below_keys a xs = unique_keys int_eq (filter (λ y. int_lt y a) xs)
 in_below : (q a : ℤ) (xs : List ℤ) → In q xs → q <ℤ a → is_member int_eq (below_keys a xs) q ≡ true
 in_below q a xs i l =
     member_of_unique int_eq eq_right eq_self q (filter (λ y. int_lt y a) xs)
-        ∙ member_from_In int_eq eq_right eq_self q (filter (λ y. int_lt y a) xs) (In-filter (λ y. int_lt y a) q xs i (lt_left q a l))
+    ∙ member_from_In int_eq eq_right eq_self q (filter (λ y. int_lt y a) xs) (In-filter (λ y. int_lt y a) q xs i (lt_left q a l))
 
 from_below : (q a : ℤ) (xs : List ℤ) → is_member int_eq (below_keys a xs) q ≡ true → In q xs × (q <ℤ a)
 from_below q a xs h =
@@ -66,13 +67,13 @@ from_below q a xs h =
 below_distinct : (a : ℤ) (xs : List ℤ) → IsDistinct int_eq (a ∷ below_keys a xs)
 below_distinct a xs =
     distinct-cons int_eq eq_right eq_self a (below_keys a xs)
-        (elim (bool_tells (is_member int_eq (below_keys a xs) a)) [ inl t ↦ absurd (let (i, l) = from_below a a xs t in omega (arith, ints)) | inr f ↦ f ])
-        (unique_distinct int_eq eq_right eq_self (filter (λ y. int_lt y a) xs))
+    (elim (bool_tells (is_member int_eq (below_keys a xs) a)) [ inl t ↦ absurd (let (i, l) = from_below a a xs t in omega (arith, ints)) | inr f ↦ f ])
+    (unique_distinct int_eq eq_right eq_self (filter (λ y. int_lt y a) xs))
 
 member_cons : (q a : ℤ) (ks : List ℤ) → is_member int_eq (a ∷ ks) q ≡ true → (q ≡ a) ⊎ (is_member int_eq ks q ≡ true)
 member_cons q a ks h =
     elim (int_eq q a) as (λ b. int_eq q a ≡ b → (b || is_member int_eq ks q) ≡ true → (q ≡ a) ⊎ (is_member int_eq ks q ≡ true)) [
-        true ↦ λ e g. inl (eq_right q a e)
+      | true ↦ λ e g. inl (eq_right q a e)
       | false ↦ λ e g. inr g
     ] refl h
 
@@ -80,10 +81,10 @@ member_cons q a ks h =
 lesser_strict : (a b : ℤ) (xs : List ℤ) → In a xs → a <ℤ b → lesser a xs < lesser b xs
 lesser_strict a b xs i l =
     let within : length (a ∷ below_keys a xs) ≤ length (below_keys b xs) = length-le_from_is_member int_eq_equiv (a ∷ below_keys a xs) (below_keys b xs) (below_distinct a xs) (λ q h.
-        elim (member_cons q a (below_keys a xs) h) [
-            inl e ↦ in_below q b xs (subst (λ z. In z xs) (sym e) i) (rw e l)
-          | inr m ↦ let (k, less) = from_below q a xs m in in_below q b xs k (omega (arith, ints))
-        ]) in
+    elim (member_cons q a (below_keys a xs) h) [
+      | inl e ↦ in_below q b xs (subst (λ z. In z xs) (sym e) i) (rw e l)
+      | inr m ↦ let (k, less) = from_below q a xs m in in_below q b xs k (omega (arith, ints))
+    ]) in
     omega arith
 
 -- the greatest member
@@ -92,7 +93,7 @@ greatest x [] = (x, inl refl, λ z h. elim h [ inl e ↦ omega (arith, ints) | i
 greatest x (y ∷ xs) =
     let (a, i, top) = greatest y xs in
     elim (bool_tells (int_lt a x)) [
-        inl t ↦ let l = lt_right a x t in (x, inl refl, λ z h. elim h [ inl e ↦ omega (arith, ints) | inr k ↦ let g = top z k in omega (arith, ints) ])
+      | inl t ↦ let l = lt_right a x t in (x, inl refl, λ z h. elim h [ inl e ↦ omega (arith, ints) | inr k ↦ let g = top z k in omega (arith, ints) ])
       | inr f ↦ (a, inr i, λ z h. elim h [ inl e ↦ omega (arith, ints) | inr k ↦ top z k ])
     ]
 
@@ -101,20 +102,20 @@ pred_of b xs k ks e (a, i, top) =
     let (j, t) = from_In-filter (λ y. int_lt y b) a xs (subst (λ z. In a z) (sym e) i) in
     let low = lesser_strict a b xs j (lt_right a b t) in
     let high : length (below_keys b xs) ≤ length (a ∷ below_keys a xs) =
-        length-le_from_is_member int_eq_equiv (below_keys b xs) (a ∷ below_keys a xs) (unique_distinct int_eq eq_right eq_self (filter (λ y. int_lt y b) xs)) (λ q h.
-            let (m, l) = from_below q b xs h in
-            let at_most : q ≤ℤ a = top q (subst (λ z. In q z) e (In-filter (λ y. int_lt y b) q xs m (lt_left q b l))) in
-            elim (int_eq q a) as (λ c. int_eq q a ≡ c → (c || is_member int_eq (below_keys a xs) q) ≡ true) [
-                true ↦ λ f. refl
-              | false ↦ λ f. in_below q a xs m (let ne : q ≢ a = eq_no q a f in omega (arith, ints))
-            ] refl) in
+    length-le_from_is_member int_eq_equiv (below_keys b xs) (a ∷ below_keys a xs) (unique_distinct int_eq eq_right eq_self (filter (λ y. int_lt y b) xs)) (λ q h.
+    let (m, l) = from_below q b xs h in
+    let at_most : q ≤ℤ a = top q (subst (λ z. In q z) e (In-filter (λ y. int_lt y b) q xs m (lt_left q b l))) in
+    elim (int_eq q a) as (λ c. int_eq q a ≡ c → (c || is_member int_eq (below_keys a xs) q) ≡ true) [
+      | true ↦ λ f. refl
+      | false ↦ λ f. in_below q a xs m (let ne : q ≢ a = eq_no q a f in omega (arith, ints))
+    ] refl) in
     (a, j, omega arith)
 
 -- the member right below b
 pred_member : (b : ℤ) (xs : List ℤ) → 0 < lesser b xs → (a : ℤ) × In a xs × (lesser a xs + 1 ≡ lesser b xs)
 pred_member b xs some =
     elim (filter (λ y. int_lt y b) xs) as (λ ks. filter (λ y. int_lt y b) xs ≡ ks → (a : ℤ) × In a xs × (lesser a xs + 1 ≡ lesser b xs)) [
-        [] ↦ λ e. absurd (let none : lesser b xs ≡ 0 = ap (λ ks. length (unique_keys int_eq ks)) e in omega arith)
+      | [] ↦ λ e. absurd (let none : lesser b xs ≡ 0 = ap (λ ks. length (unique_keys int_eq ks)) e in omega arith)
       | k ∷ ks ↦ λ e. pred_of b xs k ks e (greatest k ks)
     ] refl
 
@@ -127,7 +128,7 @@ lower_member zero b xs e y l = absurd (omega arith)
 lower_member (suc n) b xs e y l =
     let (a, i, next) = pred_member b xs (omega arith) in
     elim (below_or_same y n (omega arith)) [
-        inl same ↦ let is : lesser a xs ≡ y = omega arith in (a, i, is)
+      | inl same ↦ let is : lesser a xs ≡ y = omega arith in (a, i, is)
       | inr less ↦ lower_member n a xs (omega arith) y less
     ]
 
@@ -150,10 +151,10 @@ from_In-rests x w [] h = absurd h
 from_In-rests x w ([] ∷ V) h = inr (from_In-rests x w V h)
 from_In-rests x w ((y ∷ v) ∷ V) h =
     elim (int_eq y x) as (λ b. int_eq y x ≡ b → In w (if b then v ∷ rests x V else rests x V) → In (x ∷ w) ((y ∷ v) ∷ V)) [
-        true ↦ λ e k. elim k [
-            inl same ↦ let is : y ≡ x = eq_right y x e in inl (cc)
-          | inr more ↦ inr (from_In-rests x w V more)
-          ]
+      | true ↦ λ e k. elim k [
+        | inl same ↦ let is : y ≡ x = eq_right y x e in inl (cc)
+        | inr more ↦ inr (from_In-rests x w V more)
+      ]
       | false ↦ λ e k. inr (from_In-rests x w V k)
     ] refl h
 
@@ -184,7 +185,7 @@ dense_dense V P x y w h l =
 lesser_differs : (a b : ℤ) (xs : List ℤ) → In a xs → In b xs → a ≢ b → lesser a xs ≢ lesser b xs
 lesser_differs a b xs i j ne e =
     elim (bool_tells (int_lt a b)) [
-        inl t ↦ let l = lesser_strict a b xs i (lt_right a b t) in omega arith
+      | inl t ↦ let l = lesser_strict a b xs i (lt_right a b t) in omega arith
       | inr f ↦ let less : b <ℤ a = omega (arith, ints) in let l = lesser_strict b a xs j less in omega arith
     ]
 
@@ -193,12 +194,12 @@ dense_apart V [] w i j a = absurd a
 dense_apart V (x ∷ v) [] i j a = absurd a
 dense_apart V (x ∷ v) (y ∷ w) i j a =
     elim (bool_tells (int_eq x y)) [
-        inr f ↦ inl (lesser_differs x y (heads V) (In-heads x v V i) (In-heads y w V j) (eq_no x y f))
+      | inr f ↦ inl (lesser_differs x y (heads V) (In-heads x v V i) (In-heads y w V j) (eq_no x y f))
       | inl t ↦
-        let same : x ≡ y = eq_right x y t in
-        let more : Apart v w = elim a [ inl ne ↦ absurd (ne same) | inr b ↦ b ] in
-        let k : In (x ∷ w) V = subst (λ z. In (z ∷ w) V) (sym same) j in
-        inr (subst (λ z. Apart (dense_among (rests x V) v) (dense_among (rests z V) w)) same (dense_apart (rests x V) v w (In-rests x v V i) (In-rests x w V k) more))
+          let same : x ≡ y = eq_right x y t in
+          let more : Apart v w = elim a [ inl ne ↦ absurd (ne same) | inr b ↦ b ] in
+          let k : In (x ∷ w) V = subst (λ z. In (z ∷ w) V) (sym same) j in
+          inr (subst (λ z. Apart (dense_among (rests x V) v) (dense_among (rests z V) w)) same (dense_apart (rests x V) v w (In-rests x v V i) (In-rests x w V k) more))
     ]
 
 dense_nil : (V : List (List ℤ)) (v : List ℤ) → dense_among V v ≡ [] → v ≡ []
@@ -239,3 +240,9 @@ length_rests x ([] ∷ V) = let h = length_rests x V in omega arith
 length_rests x ((y ∷ v) ∷ V) =
     let h = length_rests x V in
     elim (int_eq y x) as (λ b. length (if b then v ∷ rests x V else rests x V) ≤ length ((y ∷ v) ∷ V)) [ true ↦ omega arith | false ↦ omega arith ]
+
+-- a step of the numbering
+pub dense_step : (made next all : List ℕ) (G H : List (List ℤ)) (v : List ℤ) (i : ℕ) (x d : ℤ) (n : ℕ) → made ++ dense_among G (drop i v) ≡ all → i < length v → x ≡ get_or v i d → n ≡ lesser x (heads G) → H ≡ rests x G → next ≡ made ++ n ∷ [] → next ++ dense_among H (drop (i + 1) v) ≡ all
+dense_step made next all G H v i x d n so_far l is number group pushed =
+    let whole : drop i v ≡ x ∷ drop (i + 1) v = rw add-one (rw is (drop-cons v i d l)) in
+    rw (pushed, append_assoc, number, group) (sym (ap (λ z. made ++ dense_among G z) whole) ∙ so_far)

@@ -1,10 +1,10 @@
 -- Fission keeps the siblings of a loop dense and free of prefixes.
-use Rattle.std.proofs.Common.{◌≡◌, ◌≢◌, ℕ, ◌+◌, ◌-◌, ◌<◌, ◌≤◌, ◌==◌, nat_lt, Bool, true, false, if◌then◌else◌, ◌⊎◌, inl, inr, List, [], ◌∷◌, ◌++◌, length, map, refl, sym, ◌∙◌, ap, subst, arith}
-use Rattle.std.proofs.lemmas.Bool.{eqb-true, eqb-false, ltb-true, ltb-false, lt-ltb, le-ltb}
+use Rattle.std.proofs.Common.{◌≡◌, ◌≢◌, ℕ, ◌+◌, ◌-◌, ◌<◌, ◌≤◌, ◌==◌, nat_lt, inl, inr, List, [], ◌∷◌, ◌++◌, map, sym, ◌∙◌, ap, subst, arith}
+use Rattle.std.proofs.lemmas.Bool.{eqb-true, eqb-false, ltb-true, ltb-false}
 use Rattle.beta_tree.specs.Vectors.{In, Apart, IsDense}
 use Rattle.beta_tree.specs.Edits.{split_loop, join_loops}
 use Rattle.beta_tree.proofs.Places.{bool_tells, In-map, from_In-map}
-use Rattle.beta_tree.proofs.Loops.{split_earlier, split_later, split_before, split_from, split_leaf_stays, join_earlier, join_later, join_next, join_next_leaf, join_split, split_kinds, from_split, apart_join}
+use Rattle.beta_tree.proofs.Loops.{split_earlier, split_later, split_before, split_from, split_leaf_stays, join_earlier, join_later, join_next, join_split, split_kinds, from_split, apart_join}
 
 pub fission_apart : (p c : ℕ) (u v : List ℕ) → Apart u v → Apart (split_loop p c u) (split_loop p c v)
 fission_apart p c u v a =

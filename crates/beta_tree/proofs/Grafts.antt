@@ -1,9 +1,9 @@
 -- A dense tree stays dense where the subtree below a prefix is replaced by a dense one.
-use Rattle.std.proofs.Common.{◌≡◌, ◌≢◌, ℕ, ◌+◌, ◌<◌, ◌==◌, Bool, true, false, if◌then◌else◌, ◌⊎◌, inl, inr, Option, Some, None, List, [], ◌∷◌, ◌++◌, length, map, refl, sym, ◌∙◌, ap, subst, arith, append_assoc}
+use Rattle.std.proofs.Common.{◌≡◌, ℕ, ◌<◌, ◌==◌, true, false, if◌then◌else◌, ◌⊎◌, inl, inr, Some, None, List, [], ◌∷◌, ◌++◌, map, refl, sym, ◌∙◌, ap, subst, append_assoc}
 use Rattle.std.proofs.lemmas.Bool.{eqb-true, eqb-false}
-use Rattle.beta_tree.specs.Vectors.{after, under, In, Apart, ApartFromAll, PrefixFree, NoneEmpty, IsDense, IsTree}
+use Rattle.beta_tree.specs.Vectors.{after, under, In, Apart, ApartFromAll, PrefixFree, IsDense}
 use Rattle.beta_tree.specs.Edits.{below}
-use Rattle.beta_tree.proofs.Places.{bool_tells, same_yes, same_no, after_append, after_is, In-map, from_In-map, In-under, from_In-under, below_append, below_other}
+use Rattle.beta_tree.proofs.Places.{bool_tells, same_yes, after_is, In-map, from_In-map, In-under, from_In-under, below_append, below_other}
 
 -- density of a set of vectors
 abbrev pub DenseSet : (List ℕ → Type 0) → Type 0

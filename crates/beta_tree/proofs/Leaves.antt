@@ -1,15 +1,15 @@
 -- A new leaf makes a tree of a tree.
-use Rattle.std.proofs.Common.{◌≡◌, ◌≢◌, ℕ, zero, suc, ◌+◌, ◌-◌, ◌<◌, ◌≤◌, ◌^◌, ◌==◌, nat_lt, Bool, true, false, if◌then◌else◌, not, ◌&&◌, ◌||◌, ◌⊎◌, inl, inr, Option, Some, None, List, [], ◌∷◌, ◌++◌, length, map, refl, sym, ◌∙◌, ap, subst, arith, append_assoc, append-nil, length-append}
+use Rattle.std.proofs.Common.{◌≡◌, ◌≢◌, ℕ, ◌+◌, ◌<◌, ◌^◌, ◌==◌, true, false, if◌then◌else◌, ◌⊎◌, inl, inr, List, [], ◌∷◌, ◌++◌, length, map, refl, sym, ◌∙◌, ap, subst, arith}
 use Rattle.std.proofs.lemmas.List.{length-map}
-use Rattle.std.specs.List.{list_any, flat_map}
+use Rattle.std.specs.List.{flat_map}
 use Rattle.std.proofs.lemmas.Bool.{eqb-true, eqb-false, le-ltb}
-use Rattle.beta_tree.specs.Vectors.{after, under, is_leaf, no_statement, In, Apart, ApartFromAll, PrefixFree, NoneEmpty, IsDense, IsTree}
-use Rattle.beta_tree.specs.Edits.{front, last, next_sibling, below, make_room, moved_up, same_vector, leaf_split}
-use Rattle.beta_tree.proofs.Places.{bool_tells, same_yes, same_no, after_append, after_is, In-map, from_In-map, In-under, from_In-under, below_append, below_other}
-use Rattle.beta_tree.proofs.Grafts.{DenseSet, Grafted, graft_dense, grafted_below, dense_under, apart_map, free_map, apart_below}
+use Rattle.beta_tree.specs.Vectors.{under, In, Apart, ApartFromAll, PrefixFree, IsTree}
+use Rattle.beta_tree.specs.Edits.{front, last, below, make_room, same_vector, leaf_split}
+use Rattle.beta_tree.proofs.Places.{bool_tells, same_yes, In-under, below_append}
+use Rattle.beta_tree.proofs.Grafts.{Grafted, graft_dense, grafted_below, dense_under, apart_map, free_map, apart_below}
 use Rattle.beta_tree.proofs.Orders.{and_left, and_right}
 use Rattle.beta_tree.proofs.Levels.{room_apart, room_apart_next, WithNextLeaf, leaf_dense}
-use Rattle.beta_tree.proofs.Trees.{leaf_in, filled_below}
+use Rattle.beta_tree.proofs.Trees.{filled_below}
 
 -- P is what stands before its last entry, and that entry
 

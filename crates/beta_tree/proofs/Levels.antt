@@ -1,12 +1,11 @@
 -- A new level and a new leaf keep the tree dense and free of prefixes.
-use Rattle.std.proofs.Common.{◌≡◌, ◌≢◌, ℕ, zero, suc, ◌+◌, ◌-◌, ◌<◌, ◌≤◌, ◌==◌, nat_lt, Bool, true, false, if◌then◌else◌, ◌&&◌, ◌⊎◌, inl, inr, Option, Some, None, is_some, List, [], ◌∷◌, ◌++◌, length, map, take, drop, refl, sym, ◌∙◌, ap, subst, arith}
+use Rattle.std.proofs.Common.{◌≡◌, ◌≢◌, ℕ, zero, suc, ◌+◌, ◌-◌, ◌<◌, ◌≤◌, ◌==◌, nat_lt, true, false, if◌then◌else◌, ◌⊎◌, inl, inr, Some, None, is_some, List, [], ◌∷◌, ◌++◌, length, map, refl, sym, ◌∙◌, ap, subst, arith}
 use Rattle.std.specs.List.{insert}
 use Rattle.std.proofs.lemmas.Bool.{eqb-true, eqb-false, ltb-true, ltb-false, lt-ltb, le-ltb}
-use Rattle.beta_tree.specs.Vectors.{after, under, In, Apart, IsDense}
+use Rattle.beta_tree.specs.Vectors.{after, In, Apart, IsDense}
 use Rattle.beta_tree.specs.Edits.{below, with_level, make_room, moved_up}
-use Rattle.beta_tree.proofs.Places.{bool_tells, same_yes, same_no, after_is, In-map, from_In-map, below_append, below_other}
+use Rattle.beta_tree.proofs.Places.{bool_tells, after_is, In-map, from_In-map, below_append, below_other}
 use Rattle.beta_tree.proofs.Grafts.{DenseSet}
-use Rattle.beta_tree.proofs.Loops.{apart_tail}
 
 -- a 0 at place j
 abbrev pub put_zero : ℕ → List ℕ → List ℕ

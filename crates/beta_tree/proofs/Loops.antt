@@ -1,9 +1,9 @@
 -- Fission and fuse among the siblings of a loop: each undoes the other, and both keep the tree dense and free of prefixes.
-use Rattle.std.proofs.Common.{◌≡◌, ◌≢◌, ℕ, ◌+◌, ◌-◌, ◌<◌, ◌≤◌, ◌==◌, nat_lt, Bool, true, false, if◌then◌else◌, ◌⊎◌, inl, inr, List, [], ◌∷◌, ◌++◌, length, map, refl, sym, ◌∙◌, ap, subst, arith}
+use Rattle.std.proofs.Common.{◌≡◌, ◌≢◌, ℕ, ◌+◌, ◌-◌, ◌<◌, ◌≤◌, ◌==◌, nat_lt, inl, inr, List, [], ◌∷◌, map, refl, sym, ◌∙◌, ap, subst, arith}
 use Rattle.std.proofs.lemmas.Bool.{eqb-true, eqb-false, ltb-true, ltb-false, lt-ltb, le-ltb}
-use Rattle.beta_tree.specs.Vectors.{In, Apart, IsDense}
-use Rattle.beta_tree.specs.Edits.{moved_up, moved_down, split_children, split_loop, appended_children, join_loops}
-use Rattle.beta_tree.proofs.Places.{bool_tells, same_yes, same_no, In-map, from_In-map}
+use Rattle.beta_tree.specs.Vectors.{In, Apart}
+use Rattle.beta_tree.specs.Edits.{moved_down, split_loop, appended_children, join_loops}
+use Rattle.beta_tree.proofs.Places.{bool_tells, same_yes, same_no, from_In-map}
 
 -- what the two do to each kind of sibling
 

@@ -1,9 +1,9 @@
 -- Facts about membership, about what follows a prefix, and about an edit below a prefix.
-use Rattle.std.proofs.Common.{◌≡◌, ◌≢◌, ℕ, ◌+◌, ◌<◌, ◌==◌, Bool, true, false, if◌then◌else◌, cond, not, ◌&&◌, ◌||◌, ◌⊎◌, inl, inr, Option, Some, None, Bor, MatchOption, List, [], ◌∷◌, ◌++◌, length, map, drop, refl, sym, ◌∙◌, ap, subst, arith, eq-eqb, append_assoc}
-use Rattle.std.proofs.lemmas.Bool.{eqb-true, eqb-false}
-use Rattle.std.specs.List.{filter_map, cons_option, list_any}
+use Rattle.std.proofs.Common.{◌≡◌, ◌≢◌, ℕ, ◌==◌, Bool, true, false, if◌then◌else◌, ◌⊎◌, inl, inr, Option, Some, None, Bor, MatchOption, List, [], ◌∷◌, ◌++◌, map, refl, sym, ◌∙◌, ap, eq-eqb}
+use Rattle.std.proofs.lemmas.Bool.{eqb-true}
+use Rattle.std.specs.List.{cons_option}
 use Rattle.std.specs.Option.{option_copied}
-use Rattle.beta_tree.specs.Vectors.{after, under, heads, is_nil, no_statement, is_leaf, In}
+use Rattle.beta_tree.specs.Vectors.{after, under, heads, In}
 use Rattle.beta_tree.specs.Edits.{below}
 
 pub bool_tells : (b : Bool) → (b ≡ true) ⊎ (b ≡ false)

@@ -1,20 +1,18 @@
 -- Each operation makes a tree of a tree.
-use Rattle.std.proofs.Common.{◌≡◌, ◌≢◌, ℕ, zero, suc, ◌+◌, ◌-◌, ◌<◌, ◌≤◌, ◌^◌, ◌==◌, nat_lt, Bool, true, false, if◌then◌else◌, not, ◌&&◌, ◌||◌, ◌⊎◌, inl, inr, Option, Some, None, List, [], ◌∷◌, ◌++◌, length, map, refl, sym, ◌∙◌, ap, subst, arith, append_assoc, append-nil, length-append}
+use Rattle.std.proofs.Common.{◌≡◌, ℕ, zero, suc, ◌+◌, ◌-◌, ◌<◌, ◌≤◌, ◌==◌, nat_lt, Bool, true, false, if◌then◌else◌, not, ◌&&◌, ◌||◌, inl, inr, Some, None, List, [], ◌∷◌, ◌++◌, length, map, refl, sym, subst, arith, append_assoc, append-nil, length-append}
 use Rattle.std.proofs.lemmas.List.{length-map}
-use Rattle.std.specs.List.{list_any, flat_map, cons_option, filter_map}
-use Rattle.std.specs.Set.{distinct_count, unique_keys}
+use Rattle.std.specs.List.{list_any, cons_option}
 use Rattle.std.proofs.Math.Dec.{eqb}
-use Rattle.std.proofs.lemmas.Bool.{eqb-true, eqb-false, ltb-true, ltb-false, lt-ltb, le-ltb}
 use Rattle.std.proofs.lemmas.Map.Made.{distinct_count-le}
-use Rattle.beta_tree.specs.Vectors.{after, under, heads, children_of, is_nil, no_statement, is_leaf, is_loop, In, Apart, ApartFromAll, PrefixFree, NoneEmpty, IsDense, IsTree, Fit}
-use Rattle.beta_tree.specs.Edits.{front, last, next_sibling, below, split_loop, join_loops, split_children, appended_children, renumbered, reordered, is_permutation_of, with_level, moved_up, moved_down, make_room, same_vector, leaf_split}
-use Rattle.beta_tree.proofs.Places.{bool_tells, same_yes, same_no, after_append, after_is, In-map, from_In-map, In-under, from_In-under, child_of_prefix, vector_of_child, below_append, below_other}
+use Rattle.beta_tree.specs.Vectors.{after, under, heads, children_of, is_nil, no_statement, is_leaf, is_loop, In, Apart, NoneEmpty, IsDense, IsTree, Fit}
+use Rattle.beta_tree.specs.Edits.{below, split_loop, join_loops, split_children, appended_children, renumbered, reordered, is_permutation_of, with_level, moved_up, moved_down}
+use Rattle.beta_tree.proofs.Places.{from_In-map, In-under, from_In-under, child_of_prefix, vector_of_child}
 use Rattle.beta_tree.proofs.Counts.{Closed, below_count, above_count}
-use Rattle.beta_tree.proofs.Grafts.{DenseSet, Grafted, graft_dense, grafted_below, dense_under, dense_below, free_map, apart_map, apart_below}
+use Rattle.beta_tree.proofs.Grafts.{dense_under, dense_below, free_map, apart_below}
 use Rattle.beta_tree.proofs.Fissions.{SplitsAt, fission_apart, fission_dense}
 use Rattle.beta_tree.proofs.Fuses.{JoinsAt, fuse_apart, fuse_dense}
-use Rattle.beta_tree.proofs.Orders.{and_left, and_right, Orders, orders_of_test, ChildrenBelow, reorder_apart, reorder_dense}
-use Rattle.beta_tree.proofs.Levels.{put_zero, with_level_below, level_apart, level_dense, room_apart, room_apart_next, WithNextLeaf, leaf_dense}
+use Rattle.beta_tree.proofs.Orders.{and_left, and_right, orders_of_test, ChildrenBelow, reorder_apart, reorder_dense}
+use Rattle.beta_tree.proofs.Levels.{put_zero, with_level_below, level_apart, level_dense}
 
 -- the children of a prefix in a dense list
 

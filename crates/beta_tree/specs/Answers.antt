@@ -1,5 +1,5 @@
 -- The answer of each operation: its refusals, the first that holds, and else the new vectors.
-use Rattle.std.specs.Prelude.{◌≡◌, ℕ, ◌<◌, nat_lt, Bool, true, false, if◌then◌else◌, not, ◌&&◌, Result, Ok, Err, List, [], ◌∷◌, map}
+use Rattle.std.specs.Prelude.{◌≡◌, ℕ, nat_lt, if◌then◌else◌, not, ◌&&◌, Result, Ok, Err, List, map}
 use Rattle.std.specs.List.{flat_map}
 use Rattle.beta_tree.specs.declared.refusals.BetaFail.{BetaFail}
 use Rattle.beta_tree.specs.declared.refusals.BetaFail.TheVariants.{Memory, NoBeta, NotALoop, BadArgument}

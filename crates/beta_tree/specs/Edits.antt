@@ -1,9 +1,9 @@
 -- What each operation does to one vector.
-use Rattle.std.specs.Prelude.{ℕ, zero, suc, ◌+◌, ◌-◌, ◌<◌, ◌==◌, nat_lt, Bool, true, false, if◌then◌else◌, not, ◌&&◌, Option, Some, None, is_some, List, [], ◌∷◌, ◌++◌, length, map, insert}
-use Rattle.std.specs.List.{flat_map, list_any}
+use Rattle.std.specs.Prelude.{ℕ, zero, suc, ◌+◌, ◌-◌, ◌==◌, nat_lt, Bool, true, if◌then◌else◌, ◌&&◌, is_some, List, [], ◌∷◌, ◌++◌, length, insert}
+use Rattle.std.specs.List.{list_any}
 use Rattle.std.specs.Cmp.Lexicographic.{pointwise}
 use Rattle.std.proofs.Math.Dec.{eqb}
-use Rattle.beta_tree.specs.Vectors.{after, children_of}
+use Rattle.beta_tree.specs.Vectors.{after}
 
 -- P without its last entry
 abbrev pub front : List ℕ → List ℕ

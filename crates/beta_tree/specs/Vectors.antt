@@ -1,6 +1,6 @@
 -- A list of beta vectors is a tree of loops: each vector is a leaf, and each longer list of which it has the beginning is a
 -- loop round it. The statements keep their order in the list, whatever their places in the tree.
-use Rattle.std.specs.Prelude.{◌≡◌, ◌≢◌, ℕ, ℤ, ◌+◌, ◌<◌, ◌^◌, ◌==◌, Bool, true, false, if◌then◌else◌, not, ◌&&◌, ◌⊎◌, Option, Some, None, List, [], ◌∷◌, ◌++◌, length, map, filter, int_lt}
+use Rattle.std.specs.Prelude.{◌≡◌, ◌≢◌, ℕ, ℤ, ◌<◌, ◌^◌, ◌==◌, Bool, true, false, if◌then◌else◌, not, ◌&&◌, ◌⊎◌, Option, Some, None, List, [], ◌∷◌, ◌++◌, length, map, filter, int_lt}
 use Rattle.std.specs.List.{filter_map, list_any}
 use Rattle.std.specs.Set.{distinct_count}
 use Rattle.std.specs.Ordering.{int_eq}

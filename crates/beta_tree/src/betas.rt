@@ -1,16 +1,19 @@
 //! The beta vectors of a SCoP's statements as a tree of loops.
 
-ghost use Rattle.std.specs.Prelude.{◌≡◌, ◌+◌, ◌-◌, ◌<◌, ◌≤◌, ◌^◌, Ok, length, slice_get, OnOk, OnErr, IfErr, OnSome};
+ghost use Rattle.std.specs.Prelude.{◌≡◌, ◌+◌, ◌-◌, ◌<◌, ◌≤◌, ◌^◌, Ok, length, slice_get, OnOk, OnErr, IfOk, IfErr, OnSome};
 ghost use Rattle.std.specs.Option.{option_copied};
-ghost use Rattle.beta_tree.specs.Vectors.{children_of, IsTree, LongerUnder};
+ghost use Rattle.beta_tree.specs.Vectors.{children_of, dense_of, IsTree, LongerUnder, NoneEmpty, PrefixFree};
 ghost use Rattle.beta_tree.specs.Answers.{HasCause, fission_answer, fuse_answer, reorder_answer, level_answer, leaf_answer};
 
 use crate::copies::next_sibling;
 use crate::looks::{count_children, is_leaf, is_permutation, is_under, split_prefix};
+use crate::numbering::dense_vectors;
 use crate::rebuilds::{join_all, level_all, reorder_all, split_all, split_leaves};
 use crate::refusals::BetaFail;
+use row_core::Coeff;
+use std::alloc::Global;
 use std::marker::Model;
-use suite_base::List;
+use suite_base::{List, NoMemory};
 
 /// The beta vectors of the statements, in the statements' order. Contracts see the list of vectors,
 /// which is dense, with none empty and none a prefix of another.
@@ -31,6 +34,19 @@ impl Model for Betas {
 }
 
 impl Betas {
+    /// The vectors numbered densely: entry `k` of a vector becomes the number of distinct lesser values
+    /// at place `k` among the vectors that agree with it before `k`.
+    pub fn dense(alloc: Global, vectors: &List<List<Coeff>>) -> Result<Betas, NoMemory>
+        requires few { length vectors.now < 2 ^ 32 }
+        requires filled { NoneEmpty vectors.now }
+        requires free { PrefixFree vectors.now }
+        ensures ok { IfOk result (λ betas. betas ≡ dense_of vectors.now) }
+        ensures tree { IfOk result (λ betas. IsTree betas) }
+    {
+        let numbered = dense_vectors(alloc, vectors)?;
+        Ok(Betas { vectors: numbered })
+    }
+
     /// The number of vectors.
     pub fn len(&self) -> usize
         ensures count { result ≡ length self.now }

@@ -5,6 +5,7 @@ mod betas;
 mod copies;
 mod edits;
 mod looks;
+mod numbering;
 mod rebuilds;
 mod refusals;
 

@@ -1,5 +1,4 @@
-use Rattle.std.proofs.Common.{◌≡◌, ◌≢◌, ◌+◌, [], ◌∷◌, ◌++◌, rules, sym, ◌∙◌, subst, arith}
-use Rattle.std.proofs.lemmas.Grind.{common_steps}
+use Rattle.std.proofs.Common.{◌≡◌, ◌≢◌, ◌+◌, [], ◌∷◌, ◌++◌, rules, sym, ◌∙◌}
 use Rattle.beta_tree.specs.Edits.{leaf_split, below, make_room}
 use Rattle.beta_tree.proofs.Leaves.{split_leaf, split_other, same_vector_yes, same_vector_no}
 use Rattle.beta_tree.proofs.rebuilds.push_split.Goals as goal

@@ -1,6 +1,5 @@
-use Rattle.std.proofs.Common.{◌≡◌, ◌<◌, rules, ap, sym, ◌∙◌, subst, arith, false, map, Ok}
-use Rattle.beta_tree.specs.Vectors.{no_statement, is_leaf, children_of, IsTree, AllFit}
-use Rattle.beta_tree.specs.Edits.{below, split_loop}
+use Rattle.std.proofs.Common.{◌≡◌, ◌<◌, rules, arith, false}
+use Rattle.beta_tree.specs.Vectors.{no_statement, is_leaf, children_of}
 use Rattle.beta_tree.specs.Answers.{fission_answer}
 use Rattle.beta_tree.proofs.Calls.{Done, fission_done}
 use Rattle.beta_tree.proofs.betas.Betas.fission.Goals as goal

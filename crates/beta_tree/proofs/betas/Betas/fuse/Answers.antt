@@ -1,6 +1,5 @@
-use Rattle.std.proofs.Common.{◌≡◌, ◌+◌, ◌<◌, ◌^◌, rules, ap, sym, ◌∙◌, subst, arith, true, false, map, Ok, Err, [], ◌∷◌, ◌++◌}
-use Rattle.beta_tree.specs.Vectors.{no_statement, is_leaf, children_of, IsTree, AllFit}
-use Rattle.beta_tree.specs.Edits.{below, join_loops}
+use Rattle.std.proofs.Common.{◌≡◌, ◌+◌, ◌<◌, ◌^◌, rules, true, false, [], ◌∷◌, ◌++◌}
+use Rattle.beta_tree.specs.Vectors.{no_statement, is_leaf, children_of}
 use Rattle.beta_tree.specs.Answers.{fuse_answer}
 use Rattle.beta_tree.proofs.Calls.{Done, fuse_done, fuse_no_next, fuse_leaf, fuse_next_leaf, next_fits, children_fit}
 use Rattle.beta_tree.proofs.betas.Betas.fuse.Goals as goal

@@ -1,5 +1,5 @@
-use Rattle.std.proofs.Common.{◌≡◌, rules, sym, ◌∙◌, subst, true, false, map}
-use Rattle.beta_tree.specs.Vectors.{no_statement, IsTree, LongerUnder}
+use Rattle.std.proofs.Common.{◌≡◌, rules, false}
+use Rattle.beta_tree.specs.Vectors.{no_statement, LongerUnder}
 use Rattle.beta_tree.specs.Answers.{level_answer}
 use Rattle.beta_tree.proofs.Calls.{Done, level_done}
 use Rattle.beta_tree.proofs.betas.Betas.insert_level.Goals as goal

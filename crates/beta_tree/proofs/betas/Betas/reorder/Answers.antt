@@ -1,6 +1,6 @@
-use Rattle.std.proofs.Common.{◌≡◌, rules, sym, ◌∙◌, true, false, map}
-use Rattle.beta_tree.specs.Vectors.{no_statement, is_leaf, children_of, IsTree}
-use Rattle.beta_tree.specs.Edits.{is_permutation_of, reordered}
+use Rattle.std.proofs.Common.{◌≡◌, rules, true, false}
+use Rattle.beta_tree.specs.Vectors.{no_statement, is_leaf, children_of}
+use Rattle.beta_tree.specs.Edits.{is_permutation_of}
 use Rattle.beta_tree.specs.Answers.{reorder_answer}
 use Rattle.beta_tree.proofs.Calls.{Done, reorder_done}
 use Rattle.beta_tree.proofs.betas.Betas.reorder.Goals as goal

@@ -1,5 +1,5 @@
-use Rattle.std.proofs.Common.{◌≡◌, ◌+◌, ◌<◌, ◌^◌, rules, sym, ◌∙◌, subst, arith, true, false, length, []}
-use Rattle.beta_tree.specs.Vectors.{no_statement, is_leaf, IsTree, AllFit}
+use Rattle.std.proofs.Common.{◌≡◌, ◌+◌, ◌<◌, ◌^◌, rules, arith, true, false, length, []}
+use Rattle.beta_tree.specs.Vectors.{no_statement, is_leaf}
 use Rattle.beta_tree.specs.Answers.{leaf_answer}
 use Rattle.beta_tree.proofs.Calls.{Done, leaf_done, next_fits, room_fit, nil_no_leaf}
 use Rattle.beta_tree.proofs.betas.Betas.split_leaf.Goals as goal
