@@ -13,3 +13,4 @@ pub mod Leaves
 pub mod Steps
 pub mod Calls
 pub mod Dense
+pub mod Samples

@@ -11,3 +11,6 @@ mod refusals;
 
 pub use betas::Betas;
 pub use refusals::BetaFail;
+
+#[cfg(test)]
+mod tests;
