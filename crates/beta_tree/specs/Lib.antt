@@ -2,4 +2,3 @@
 pub mod Vectors
 pub mod Edits
 pub mod Answers
-pub mod Laws
