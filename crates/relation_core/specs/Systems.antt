@@ -1,0 +1,52 @@
+-- Systems of rows as data: a shape and a list of rows of that width.
+use Rattle.std.specs.Prelude.{ℤ, ℕ, ◌+◌, ◌<◌, ◌≤◌, ◌≡◌, List, [], ◌∷◌, ◌++◌, length}
+use Rattle.std.proofs.Common.{get_or}
+use Rattle.relation_core.specs.declared.shapes.Shape.{Shape}
+use Rattle.relation_core.specs.declared.part_rows.PartRow.{PartRow}
+use Rattle.relation_core.specs.declared.part_rows.RowKind.{RowKind}
+use Rattle.relation_core.specs.declared.part_rows.RowKind.TheVariants.{Equal}
+
+-- what a part is: its shape and its rows in order
+pub record System : Type 0 where
+  pub shape : Shape
+  pub rows : List PartRow
+
+-- the number of columns before the constant
+abbrev pub columns : Shape → ℕ
+columns shape = shape.outputs + shape.inputs + shape.locals + shape.parameters
+
+-- the number of entries of a row: all columns and the constant
+abbrev pub width : Shape → ℕ
+width shape = columns shape + 1
+
+-- no number of a shape passes 65,536
+pub record HasLimits (shape : Shape) : Type 0 where
+  pub outputs : shape.outputs ≤ 65536
+  pub inputs : shape.inputs ≤ 65536
+  pub locals : shape.locals ≤ 65536
+  pub parameters : shape.parameters ≤ 65536
+
+-- a row that is not there
+abbrev pub no_row : PartRow
+no_row = record { kind = Equal; entries = [] }
+
+-- the row at place k
+abbrev pub row_at : List PartRow → ℕ → PartRow
+row_at rows k = get_or rows k no_row
+
+-- every row has n entries
+abbrev pub HaveWidth : ℕ → List PartRow → Type 0
+HaveWidth n rows = (k : ℕ) → k < length rows → length (row_at rows k).entries ≡ n
+
+-- every part keeps its limits, and each of its rows is as wide as its shape
+pub record IsWellFormed (shape : Shape) (rows : List PartRow) : Type 0 where
+  pub limits : HasLimits shape
+  pub widths : HaveWidth (width shape) rows
+
+-- the system without rows
+abbrev pub no_rows : Shape → System
+no_rows shape = record { shape = shape; rows = [] }
+
+-- the system with one more row
+abbrev pub with_row : System → RowKind → List ℤ → System
+with_row part kind entries = record part { rows = part.rows ++ record { kind = kind; entries = entries } ∷ [] }

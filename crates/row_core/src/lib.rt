@@ -1,0 +1,12 @@
+//! Coefficients that fit 127 bits and a sign, and rows of them with checked arithmetic.
+#![tactic(auto)]
+
+mod arithmetic;
+mod coeffs;
+mod dense_rows;
+mod sums;
+
+pub use arithmetic::{RowFail, add_scaled, combine, negated, swap_columns, value_sign};
+pub use coeffs::Coeff;
+pub use dense_rows::DenseRow;
+pub use sums::Sum;
