@@ -1,0 +1,3 @@
+pub mod Names
+pub mod Lexemes
+pub mod Taking

@@ -1,0 +1,12 @@
+//! Scripts of loop transformations: their text, read with the place of its first fault, and their
+//! one printed layout.
+#![tactic(auto)]
+
+mod command_names;
+mod commands;
+mod lexers;
+mod tokens;
+mod vectors;
+
+pub use commands::{Command, Script};
+pub use vectors::Vector;
