@@ -1,3 +1,5 @@
 pub mod Names
+pub mod Commands
 pub mod Lexemes
 pub mod Taking
+pub mod Reading

@@ -5,6 +5,7 @@
 mod command_names;
 mod commands;
 mod lexers;
+mod readers;
 mod tokens;
 mod vectors;
 
