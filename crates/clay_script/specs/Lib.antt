@@ -3,3 +3,4 @@ pub mod Commands
 pub mod Lexemes
 pub mod Taking
 pub mod Reading
+pub mod Layout

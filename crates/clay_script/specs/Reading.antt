@@ -117,16 +117,31 @@ command_at name ts = sign_at OpenRound ts >>= λ a. arguments_at name a >>= λ c
 abbrev pub with_command : Command → Result (List Command) Refusal → Result (List Command) Refusal
 with_command c read = read >>= λ cs. Ok (c ∷ cs)
 
+-- the name of the next command, or none at the end of the text
+abbrev pub name_of_token : Token → Place → List Lexeme → Result (Option CommandName × List Lexeme) Refusal
+name_of_token End at ts = Ok (None, [])
+name_of_token (Name (Some name)) at ts = Ok (Some name, ts)
+name_of_token other at ts = Err (fault_of other at)
+
+abbrev pub name_at : List Lexeme → Result (Option CommandName × List Lexeme) Refusal
+name_at [] = Err ended
+name_at (t ∷ ts) = name_of_token t.token t.place ts
+
 -- what a token begins, where a command or the end may come
 abbrev pub head_of : Token → Place → (CommandName → Result (List Command) Refusal) → Result (List Command) Refusal
 head_of End at next = Ok []
 head_of (Name (Some name)) at next = next name
 head_of other at next = Err (fault_of other at)
 
--- the commands of a text, of which only so many may come
+-- a command and those after it, where none is left to come: one too many
+abbrev pub too_many : Result (List Command) Refusal
+too_many = Err (Limit Commands 0)
+
+-- the commands of a text, of which at most n may come
 unfoldable pub commands_at : ℕ → List Lexeme → Result (List Command) Refusal
-commands_at n [] = Err ended
-commands_at zero (t ∷ ts) = head_of t.token t.place (λ name. Err (Limit Commands 0))
+commands_at zero [] = Err ended
+commands_at zero (t ∷ ts) = head_of t.token t.place (λ name. too_many)
+commands_at (suc n) [] = Err ended
 commands_at (suc n) (t ∷ ts) = head_of t.token t.place (λ name. command_at name ts >>= λ c. with_command c.0 (commands_at n c.1))
 
 -- A call answered what reading gives, and these tokens are left, unless memory ran out.
@@ -145,3 +160,12 @@ Passes (Err e) left read = Fails e read
 abbrev pub Answers : {X : Type 0} → Result X Fail → Result X Refusal → Type 0
 Answers (Ok x) read = read ≡ Ok x
 Answers (Err e) read = Fails e read
+
+abbrev pub NextName : Result (Option CommandName) Fail → List Lexeme → Result (Option CommandName × List Lexeme) Refusal → Type 0
+NextName (Ok (Some name)) left read = read ≡ Ok (Some name, left)
+NextName (Ok None) left read = read ≡ Ok (None, [])
+NextName (Err e) left read = Fails e read
+
+-- the commands that were read before, and those that are still read
+abbrev pub with_commands : List Command → Result (List Command) Refusal → Result (List Command) Refusal
+with_commands front read = read >>= λ cs. Ok (front ++ cs)

@@ -5,9 +5,14 @@
 mod command_names;
 mod commands;
 mod lexers;
+mod printers;
 mod readers;
+#[cfg(test)]
+mod tests;
 mod tokens;
 mod vectors;
 
 pub use commands::{Command, Script};
+pub use printers::print_script;
+pub use readers::{MAX_COMMANDS, read_script};
 pub use vectors::Vector;

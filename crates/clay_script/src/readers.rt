@@ -2,7 +2,7 @@
 
 ghost use Rattle.std.specs.Prelude.{◌≡◌, ◌+◌, ◌<◌, ◌^◌, length};
 ghost use Rattle.clay_script.specs.Lexemes.{lexemes, lexemes_of};
-ghost use Rattle.clay_script.specs.Reading.{Gives, Passes, Answers, fault_of, sign_at, number_at, numbers_at, separator_at, with_front, items_at, vector_at, next_number_at, next_vector_at, rest_at, arguments_at, command_at, commands_at};
+ghost use Rattle.clay_script.specs.Reading.{Gives, Passes, Answers, fault_of, sign_at, number_at, numbers_at, separator_at, with_front, items_at, vector_at, next_number_at, next_vector_at, rest_at, arguments_at, command_at, NextName, name_at, commands_at};
 ghost use Rattle.clay_script.specs.declared.tokens.Token.TheVariants.{OpenRound, CloseRound, OpenSquare, Comma, Semicolon};
 
 use crate::command_names::CommandName;
@@ -13,6 +13,50 @@ use crate::vectors::Vector;
 use row_core::Coeff;
 use std::alloc::Global;
 use suite_base::{Fail, Place, Refusal, Which};
+
+/// The most commands that a script may have.
+pub const MAX_COMMANDS: usize = 4096;
+
+/// Reads a text as a script. The text has fewer than 2^32 - 1 bytes.
+///
+/// Refuses at the first place at which one of these holds: `NumberTooLarge` at a number outside the
+/// range of a coefficient; `BadScript` at a byte that begins no token, at a token with which no
+/// script goes on, or at the end of a text that is no script; `Limit(Commands, 0)` at the name of
+/// the command after the 4,096th.
+pub fn read_script(alloc: Global, bytes: &[u8]) -> Result<Script, Fail>
+    requires { length bytes.now + 1 < 2 ^ 32 }
+    ensures { Answers result (commands_at 4096 (lexemes_of bytes.now)) }
+{
+    let mut lexer = Lexer::new(bytes);
+    read_commands(alloc, &mut lexer)
+}
+
+/// Takes commands to the end of the text.
+fn read_commands(alloc: Global, lexer: &mut Lexer<'_>) -> Result<Script, Fail>
+    ensures { Answers result (commands_at 4096 (lexemes 0 lexer.old.place lexer.old.rest.now)) }
+{
+    let mut script = Script::new(alloc);
+    while let Some(name) = next_name(lexer)? {
+        if script.len() >= MAX_COMMANDS {
+            return Err(Fail::Refused(Refusal::Limit(Which::Commands, 0)));
+        }
+        let command = read_command(alloc, lexer, name)?;
+        script.push(command)?;
+    }
+    Ok(script)
+}
+
+/// Takes the name of the next command; `None` at the end of the text.
+fn next_name(lexer: &mut Lexer<'_>) -> Result<Option<CommandName>, Fail>
+    ensures { NextName result (lexemes 0 lexer.new.place lexer.new.rest.now) (name_at (lexemes 0 lexer.old.place lexer.old.rest.now)) }
+{
+    let Lexeme { token, place } = lexer.next();
+    match token {
+        Token::End => Ok(None),
+        Token::Name(Some(name)) => Ok(Some(name)),
+        _ => Err(fault(token, place)),
+    }
+}
 
 /// The refusal for a token that may not stand at its place.
 fn fault(token: Token, place: Place) -> Fail
