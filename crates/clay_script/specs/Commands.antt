@@ -67,6 +67,10 @@ more_of (Stripmine p k s) = OneNumber k ∷ OneNumber s ∷ []
 more_of (Tile p k s t) = OneNumber k ∷ OneNumber s ∷ OneNumber t ∷ []
 more_of (Iss p x n c) = OneVector x ∷ OneVector n ∷ OneNumber c ∷ []
 
+-- all arguments of a command
+abbrev pub arguments_of : Command → List Argument
+arguments_of c = OneVector (prefix_of c) ∷ more_of c
+
 -- the command of a name with these arguments, where they are of its kinds
 abbrev pub command_of : CommandName → List ℤ → List Argument → Command
 command_of name.Fission p (OneNumber c ∷ []) = Fission p c

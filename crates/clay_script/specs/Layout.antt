@@ -5,7 +5,7 @@ use Rattle.std.specs.Fmt.{signed_decimal}
 use Rattle.row_core.specs.Rows.{AreCoefficients}
 use Rattle.clay_script.specs.declared.commands.Command.{Command}
 use Rattle.clay_script.specs.Names.{letters_of}
-use Rattle.clay_script.specs.Commands.{Argument, OneNumber, OneVector, name_of, prefix_of, more_of}
+use Rattle.clay_script.specs.Commands.{Argument, OneNumber, OneVector, name_of, arguments_of}
 
 -- a text behind `, `
 abbrev pub behind_comma : List ℕ → List ℕ
@@ -22,10 +22,6 @@ vector_text zs = codes "[" ++ comma_joined (map signed_decimal zs) ++ codes "]"
 abbrev pub argument_text : Argument → List ℕ
 argument_text (OneNumber z) = signed_decimal z
 argument_text (OneVector zs) = vector_text zs
-
--- all arguments of a command
-abbrev pub arguments_of : Command → List Argument
-arguments_of c = OneVector (prefix_of c) ∷ more_of c
 
 -- a command's line
 abbrev pub command_text : Command → List ℕ

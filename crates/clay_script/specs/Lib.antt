@@ -4,3 +4,4 @@ pub mod Lexemes
 pub mod Taking
 pub mod Reading
 pub mod Layout
+pub mod Grammar

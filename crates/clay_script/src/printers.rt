@@ -4,8 +4,8 @@ ghost use Rattle.std.specs.Prelude.{◌≡◌, ◌++◌, map, codes, OnOk, IfOk}
 ghost use Rattle.std.specs.List.{flat_map};
 ghost use Rattle.std.specs.Fmt.{signed_decimal};
 ghost use Rattle.clay_script.specs.Names.{letters_of};
-ghost use Rattle.clay_script.specs.Commands.{name_of};
-ghost use Rattle.clay_script.specs.Layout.{behind_comma, comma_joined, vector_text, argument_text, arguments_of, command_text, layout};
+ghost use Rattle.clay_script.specs.Commands.{name_of, arguments_of};
+ghost use Rattle.clay_script.specs.Layout.{behind_comma, comma_joined, vector_text, argument_text, command_text, layout};
 
 use crate::command_names::CommandName;
 use crate::commands::{Command, Script};
