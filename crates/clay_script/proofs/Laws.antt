@@ -1,5 +1,5 @@
 -- What it means that a reader reads a form of the grammar, and how readers are put together.
-use Rattle.std.proofs.Common.{◌≡◌, ℕ, zero, suc, ◌+◌, Bool, true, false, List, [], ◌∷◌, ◌++◌, length, Option, Some, None, Result, Ok, Err, ℤ, refl, sym, ap, subst, ◌∙◌, append_assoc, arith}
+use Rattle.std.proofs.Common.{◌≡◌, ℕ, zero, suc, ◌+◌, Bool, true, false, cond, ◌⊎◌, inl, inr, List, [], ◌∷◌, ◌++◌, length, Option, Some, None, Result, Ok, Err, ℤ, pos, refl, sym, ap, subst, ◌∙◌, append_assoc, arith}
 use Rattle.std.proofs.lemmas.List.{append-nil}
 use Rattle.suite_base.specs.declared.places.Place.{Place}
 use Rattle.suite_base.specs.declared.refusals.Refusal.{Refusal}
@@ -90,6 +90,115 @@ unique D S R reads x y a b dx dy e =
     let same : read_ok x (placed a) ≡ read_ok y (placed b) = sym one ∙ (ap (λ (l : List Token). R (placed l)) e ∙ two) in
     (same_value x y (placed a) (placed b) same, sym (tokens-placed a) ∙ (ap tokens_of (same_left x y (placed a) (placed b) same) ∙ tokens-placed b))
 
+-- ---- readers one after the other
+
+pub bind_ok : {A B : Type 0} (r : Result A Refusal) (f : A → Result B Refusal) (y : B) → (r >>= f) ≡ Ok y → (x : A) × (r ≡ Ok x) × (f x ≡ Ok y)
+bind_ok (Ok x) f y e = (x, refl, e)
+bind_ok (Err d) f y e = absurd (let no : false ≡ true = cc in cc)
+
+pub bind_err : {A B : Type 0} (r : Result A Refusal) (f : A → Result B Refusal) (d : Refusal) → (r >>= f) ≡ Err d → (r ≡ Err d) ⊎ ((x : A) × (r ≡ Ok x) × (f x ≡ Err d))
+bind_err (Ok x) f d e = inr (x, refl, e)
+bind_err (Err c) f d e = inl cc
+
+-- values w are made of a first x and a second y
+pub record Joins {X Y W : Type 0} (D1 : X → Type 0) (D2 : Y → Type 0) (D : W → Type 0) (g : X → Y → W) (a : W → X) (b : W → Y) : Type 0 where
+  pub first : (x : X) (y : Y) → D1 x → D2 y → a (g x y) ≡ x
+  pub second : (x : X) (y : Y) → D1 x → D2 y → b (g x y) ≡ y
+  pub fits : (x : X) (y : Y) → D1 x → D2 y → D (g x y)
+  pub fits_first : (w : W) → D w → D1 (a w)
+  pub fits_second : (w : W) → D w → D2 (b w)
+  pub back : (w : W) → D w → g (a w) (b w) ≡ w
+
+abbrev pub both : {X Y W : Type 0} → (X → Y → W) → (List Lexeme → Result (X × List Lexeme) Refusal) → (List Lexeme → Result (Y × List Lexeme) Refusal) → List Lexeme → Result (W × List Lexeme) Refusal
+both g R Q ts = R ts >>= λ p. Q p.1 >>= λ q. read_ok (g p.0 q.0) q.1
+
+module _ {X Y W : Type 0} (D1 : X → Type 0) (D2 : Y → Type 0) (D : W → Type 0) (g : X → Y → W) (a : W → X) (b : W → Y) (joins : Joins D1 D2 D g a b)
+    (S1 : X → List Token) (S2 : Y → List Token) (R : List Lexeme → Result (X × List Lexeme) Refusal) (Q : List Lexeme → Result (Y × List Lexeme) Refusal)
+    (one : Reads D1 S1 R) (two : Reads D2 S2 Q) (y0 : Y) (y0_fits : D2 y0) where
+
+  abbrev spelled : W → List Token
+  spelled w = S1 (a w) ++ S2 (b w)
+
+  both_sound : (ts us : List Lexeme) (w : W) → both g R Q ts ≡ read_ok w us → D w × Begins (spelled w) ts us
+  both_sound ts us w e =
+      let p = bind_ok (R ts) (λ p. Q p.1 >>= λ q. read_ok (g p.0 q.0) q.1) (w, us) e in
+      let q = bind_ok (Q p.0.1) (λ q. read_ok (g p.0.0 q.0) q.1) (w, us) p.2 in
+      let made : g p.0.0 q.0.0 ≡ w = same_value (g p.0.0 q.0.0) w q.0.1 us q.2 in
+      let left : q.0.1 ≡ us = same_left (g p.0.0 q.0.0) w q.0.1 us q.2 in
+      let h = one.sound ts p.0.1 p.0.0 p.1 in
+      let k = two.sound p.0.1 q.0.1 q.0.0 q.1 in
+      let parts : spelled (g p.0.0 q.0.0) ≡ S1 p.0.0 ++ S2 q.0.0 = rw (joins.first p.0.0 q.0.0 h.0 k.0, joins.second p.0.0 q.0.0 h.0 k.0) refl in
+      let at : Begins (S1 p.0.0 ++ S2 q.0.0) ts q.0.1 = Begins-join (S1 p.0.0) (S2 q.0.0) ts p.0.1 q.0.1 h.1 k.1 in
+      let placed_right : Begins (spelled (g p.0.0 q.0.0)) ts q.0.1 = subst (λ (l : List Token). Begins l ts q.0.1) (sym parts) at in
+      let whole : Begins (spelled (g p.0.0 q.0.0)) ts us = subst (λ (l : List Lexeme). Begins (spelled (g p.0.0 q.0.0)) ts l) left placed_right in
+      (subst D made (joins.fits p.0.0 q.0.0 h.0 k.0), subst (λ (v : W). Begins (spelled v) ts us) made whole)
+
+  both_complete : (ts us : List Lexeme) (w : W) → D w → Begins (spelled w) ts us → both g R Q ts ≡ read_ok w us
+  both_complete ts us w d begins =
+      let cut = Begins-split (S1 (a w)) (S2 (b w)) ts us begins in
+      let r : R ts ≡ read_ok (a w) cut.mid = one.complete ts cut.mid (a w) (joins.fits_first w d) cut.first in
+      let q : Q cut.mid ≡ read_ok (b w) us = two.complete cut.mid us (b w) (joins.fits_second w d) cut.second in
+      rw (r, q, joins.back w d) refl
+
+  both_keeps : (ts us : List Lexeme) (w : W) → both g R Q ts ≡ read_ok w us → IsText ts → IsText us
+  both_keeps ts us w e h =
+      let p = bind_ok (R ts) (λ p. Q p.1 >>= λ q. read_ok (g p.0 q.0) q.1) (w, us) e in
+      let q = bind_ok (Q p.0.1) (λ q. read_ok (g p.0.0 q.0) q.1) (w, us) p.2 in
+      let left : q.0.1 ≡ us = same_left (g p.0.0 q.0.0) w q.0.1 us q.2 in
+      subst IsText left (two.keeps p.0.1 q.0.1 q.0.0 q.1 (one.keeps ts p.0.1 p.0.0 p.1 h))
+
+  faulty_first : (ts : List Lexeme) (r : Refusal) → Faulty D1 S1 ts r → Faulty D spelled ts r
+  faulty_first ts r f =
+      let parts : spelled (g f.some y0) ≡ S1 f.some ++ S2 y0 = rw (joins.first f.some y0 f.some_fits y0_fits, joins.second f.some y0 f.some_fits y0_fits) refl in
+      record {
+        front = f.front; here = f.here; rest = f.rest; begins = f.begins; is = f.is;
+        some = g f.some y0;
+        some_fits = joins.fits f.some y0 f.some_fits y0_fits;
+        more = f.more ++ S2 y0;
+        goes_on = sym (append_assoc f.front f.more (S2 y0)) ∙ (ap (λ (l : List Token). l ++ S2 y0) f.goes_on ∙ sym parts);
+        stops = λ w after others d e. f.stops (a w) (S2 (b w) ++ after) others (joins.fits_first w d) (sym (append_assoc (S1 (a w)) (S2 (b w)) after) ∙ e);
+      }
+
+  faulty_second : (ts mid : List Lexeme) (x : X) (r : Refusal) → R ts ≡ read_ok x mid → Faulty D2 S2 mid r → Faulty D spelled ts r
+  faulty_second ts mid x r e f =
+      let h = one.sound ts mid x e in
+      let parts : spelled (g x f.some) ≡ S1 x ++ S2 f.some = rw (joins.first x f.some h.0 f.some_fits, joins.second x f.some h.0 f.some_fits) refl in
+      record {
+        front = S1 x ++ f.front; here = f.here; rest = f.rest;
+        begins = Begins-join (S1 x) f.front ts mid (f.here ∷ f.rest) h.1 f.begins;
+        is = f.is;
+        some = g x f.some;
+        some_fits = joins.fits x f.some h.0 f.some_fits;
+        more = f.more;
+        goes_on = append_assoc (S1 x) f.front f.more ∙ (ap (λ (l : List Token). S1 x ++ l) f.goes_on ∙ sym parts);
+        stops = λ w after others d e.
+          let same = unique D1 S1 R one (a w) x (S2 (b w) ++ after) (f.front ++ f.here.token ∷ others) (joins.fits_first w d) h.0
+            (sym (append_assoc (S1 (a w)) (S2 (b w)) after) ∙ (e ∙ append_assoc (S1 x) f.front (f.here.token ∷ others))) in
+          f.stops (b w) after others (joins.fits_second w d) same.1;
+      }
+
+  both_faults : (ts : List Lexeme) (r : Refusal) → IsText ts → both g R Q ts ≡ read_err r → Faulty D spelled ts r
+  both_faults ts r h e =
+      elim (bind_err (R ts) (λ p. Q p.1 >>= λ q. read_ok (g p.0 q.0) q.1) r e) [
+        | inl early ↦ faulty_first ts r (one.faults ts r h early)
+        | inr p ↦ elim (bind_err (Q p.0.1) (λ q. read_ok (g p.0.0 q.0) q.1) r p.2) [
+            | inl late ↦ faulty_second ts p.0.1 p.0.0 r p.1 (two.faults p.0.1 r (one.keeps ts p.0.1 p.0.0 p.1 h) late)
+            | inr q ↦ absurd (not_both r (g p.0.0 q.0.0) q.0.1 (sym q.2))
+          ]
+      ]
+
+  pub both_reads : Reads D spelled (both g R Q)
+  both_reads = record { sound = both_sound; complete = both_complete; keeps = both_keeps; faults = both_faults }
+
+-- the same form, by a reader that answers the same
+pub reads_same : {X : Type 0} (D : X → Type 0) (S : X → List Token) (R Q : List Lexeme → Result (X × List Lexeme) Refusal) → ((ts : List Lexeme) → Q ts ≡ R ts) → Reads D S R → Reads D S Q
+reads_same D S R Q same reads = record {
+  sound = λ ts us x e. reads.sound ts us x (sym (same ts) ∙ e);
+  complete = λ ts us x d h. same ts ∙ reads.complete ts us x d h;
+  keeps = λ ts us x e h. reads.keeps ts us x (sym (same ts) ∙ e) h;
+  faults = λ ts r h e. reads.faults ts r h (sym (same ts) ∙ e);
+}
+
 -- ---- a number
 
 large_or_not : (t : Token) (at : Place) (r : Refusal) (ts : List Lexeme) → number_of t at (λ n. read_ok n ts) ≡ read_err r → (r ≡ fault_of t at) × ((z : ℤ) → Number z ≡ t → ⊥)
@@ -105,10 +214,106 @@ tail_is k l a b e = cc
 abbrev pub Any : {X : Type 0} → X → Type 0
 Any x = Unit {0}
 
+number_sound : (ts us : List Lexeme) (x : ℤ) → number_at ts ≡ read_ok x us → Any x × Begins (one_number x) ts us
+number_sound [] us x e = absurd (not_both ended x us e)
+number_sound (t ∷ ts) us x e = let found = number_is t.token t.place ts us x e in (tt, (found.0, found.1))
+
+number_complete : (ts us : List Lexeme) (x : ℤ) → Any x → Begins (one_number x) ts us → number_at ts ≡ read_ok x us
+number_complete [] us x d h = absurd h
+number_complete (t ∷ ts) us x d h = rw (h.0, ← h.1) refl
+
+number_not_end : (t : Token) (z : ℤ) → t ≡ Number z → t ≡ End → ⊥
+number_not_end t z e f = absurd (let no : true ≡ false = cc in cc)
+
+number_keeps : (ts us : List Lexeme) (x : ℤ) → number_at ts ≡ read_ok x us → IsText ts → IsText us
+number_keeps [] us x e h = absurd h
+number_keeps (t ∷ ts) us x e h =
+    let found = number_is t.token t.place ts us x e in
+    subst IsText found.1 (text_after t ts (λ f. number_not_end t.token x found.0 f) h)
+
+number_faults : (ts : List Lexeme) (r : Refusal) → IsText ts → number_at ts ≡ read_err r → Faulty {X = ℤ} Any one_number ts r
+number_faults [] r h e = absurd h
+number_faults (t ∷ ts) r h e =
+    let found = large_or_not t.token t.place r ts e in
+    record {
+      front = []; here = t; rest = ts; begins = refl; is = found.0;
+      some = pos 0; some_fits = tt; more = one_number (pos 0); goes_on = refl;
+      stops = λ x after others d f. found.1 x (head_is (Number x) t.token after others f);
+    }
+
 pub number_reads : Reads {X = ℤ} Any one_number number_at
-number_reads = record {
-  sound = λ ts us x e. ?;
-  complete = λ ts us x d b. ?;
-  keeps = λ ts us x e h. ?;
-  faults = λ ts r h e. ?;
-}
+number_reads = record { sound = number_sound; complete = number_complete; keeps = number_keeps; faults = number_faults }
+
+-- ---- a sign
+
+-- a token that is a sign
+abbrev pub IsSign : Token → Type 0
+IsSign k = same_sign k k ≡ true
+
+same_is : (k t : Token) → same_sign k t ≡ true → t ≡ k
+same_is OpenRound OpenRound h = refl
+same_is CloseRound CloseRound h = refl
+same_is OpenSquare OpenSquare h = refl
+same_is CloseSquare CloseSquare h = refl
+same_is Comma Comma h = refl
+same_is Semicolon Semicolon h = refl
+same_is k t h = absurd (let no : false ≡ true = h in cc)
+
+abbrev pub Nothing : Type 0
+Nothing = Unit {0}
+
+abbrev pub nothing : Nothing
+nothing = tt
+
+abbrev pub passed : List Lexeme → Result (Nothing × List Lexeme) Refusal
+passed us = Ok (nothing, us)
+
+-- a reader of one sign
+abbrev pub sign_reader : Token → List Lexeme → Result (Nothing × List Lexeme) Refusal
+sign_reader k ts = sign_at k ts >>= passed
+
+abbrev pub one_sign : Token → Nothing → List Token
+one_sign k _ = k ∷ []
+
+abbrev found_or : Bool → Lexeme → List Lexeme → Result (List Lexeme) Refusal
+found_or b t ts = cond b (Ok ts) (Err (fault_of t.token t.place))
+
+found_sign : (b : Bool) (t : Lexeme) (ts us : List Lexeme) → (found_or b t ts >>= passed) ≡ passed us → (b ≡ true) × (ts ≡ us)
+found_sign true t ts us e = (refl, same_left nothing nothing ts us e)
+found_sign false t ts us e = absurd (not_both (fault_of t.token t.place) nothing us e)
+
+lost_sign : (b : Bool) (t : Lexeme) (ts : List Lexeme) (r : Refusal) → (found_or b t ts >>= passed) ≡ read_err r → (b ≡ false) × (r ≡ fault_of t.token t.place)
+lost_sign true t ts r e = absurd (not_both r nothing ts (sym e))
+lost_sign false t ts r e = (refl, sym (same_refusal (fault_of t.token t.place) r e))
+
+module _ (k : Token) (sign : IsSign k) (other : k ≡ End → ⊥) where
+
+  sign_sound : (ts us : List Lexeme) (x : Nothing) → sign_reader k ts ≡ read_ok x us → Any x × Begins (one_sign k x) ts us
+  sign_sound [] us x e = absurd (not_both ended nothing us e)
+  sign_sound (t ∷ ts) us x e = let found = found_sign (same_sign k t.token) t ts us e in (tt, (same_is k t.token found.0, found.1))
+
+  sign_complete : (ts us : List Lexeme) (x : Nothing) → Any x → Begins (one_sign k x) ts us → sign_reader k ts ≡ read_ok x us
+  sign_complete [] us x d h = absurd h
+  sign_complete (t ∷ ts) us x d h = rw (h.0, sign, ← h.1) refl
+
+  sign_keeps : (ts us : List Lexeme) (x : Nothing) → sign_reader k ts ≡ read_ok x us → IsText ts → IsText us
+  sign_keeps [] us x e h = absurd h
+  sign_keeps (t ∷ ts) us x e h =
+      let found = found_sign (same_sign k t.token) t ts us e in
+      subst IsText found.1 (text_after t ts (λ f. other (sym (same_is k t.token found.0) ∙ f)) h)
+
+  sign_faults : (ts : List Lexeme) (r : Refusal) → IsText ts → sign_reader k ts ≡ read_err r → Faulty {X = Nothing} Any (one_sign k) ts r
+  sign_faults [] r h e = absurd h
+  sign_faults (t ∷ ts) r h e =
+      let lost = lost_sign (same_sign k t.token) t ts r e in
+      record {
+        front = []; here = t; rest = ts; begins = refl; is = lost.1;
+        some = tt; some_fits = tt; more = k ∷ []; goes_on = refl;
+        stops = λ x after others d f.
+          let same : k ≡ t.token = head_is k t.token after others f in
+          let yes : same_sign k t.token ≡ true = rw (← same) sign in
+          absurd (let no : false ≡ true = sym lost.0 ∙ yes in cc);
+      }
+
+  pub sign_reads : Reads {X = Nothing} Any (one_sign k) (sign_reader k)
+  sign_reads = record { sound = sign_sound; complete = sign_complete; keeps = sign_keeps; faults = sign_faults }
