@@ -205,10 +205,10 @@ large_or_not : (t : Token) (at : Place) (r : Refusal) (ts : List Lexeme) → num
 large_or_not (Number n) at r ts e = absurd (not_both r n ts (sym e))
 large_or_not other at r ts e = (sym (same_refusal (fault_of other at) r e), λ z f. absurd (let no : true ≡ false = cc in cc))
 
-head_is : (k l : Token) (a b : List Token) → k ∷ a ≡ l ∷ b → k ≡ l
+pub head_is : (k l : Token) (a b : List Token) → k ∷ a ≡ l ∷ b → k ≡ l
 head_is k l a b e = cc
 
-tail_is : (k l : Token) (a b : List Token) → k ∷ a ≡ l ∷ b → a ≡ b
+pub tail_is : (k l : Token) (a b : List Token) → k ∷ a ≡ l ∷ b → a ≡ b
 tail_is k l a b e = cc
 
 abbrev pub Any : {X : Type 0} → X → Type 0
@@ -317,3 +317,91 @@ module _ (k : Token) (sign : IsSign k) (other : k ≡ End → ⊥) where
 
   pub sign_reads : Reads {X = Nothing} Any (one_sign k) (sign_reader k)
   sign_reads = record { sound = sign_sound; complete = sign_complete; keeps = sign_keeps; faults = sign_faults }
+
+-- the same form, spelled the same way
+pub reads_spelled : {X : Type 0} (D : X → Type 0) (S T : X → List Token) (R : List Lexeme → Result (X × List Lexeme) Refusal) → ((x : X) → D x → T x ≡ S x) → Reads D S R → Reads D T R
+reads_spelled D S T R same reads = record {
+  sound = λ ts us x e.
+    let h = reads.sound ts us x e in
+    (h.0, subst (λ (l : List Token). Begins l ts us) (sym (same x h.0)) h.1);
+  complete = λ ts us x d h. reads.complete ts us x d (subst (λ (l : List Token). Begins l ts us) (same x d) h);
+  keeps = reads.keeps;
+  faults = λ ts r h e.
+    let f = reads.faults ts r h e in
+    record {
+      front = f.front; here = f.here; rest = f.rest; begins = f.begins; is = f.is;
+      some = f.some; some_fits = f.some_fits; more = f.more;
+      goes_on = f.goes_on ∙ sym (same f.some f.some_fits);
+      stops = λ x after others d g. f.stops x after others d (ap (λ (l : List Token). l ++ after) (sym (same x d)) ∙ g);
+    };
+}
+
+read_eta : {X : Type 0} (r : Result (X × List Lexeme) Refusal) → r ≡ (r >>= λ q. read_ok q.0 q.1)
+read_eta (Ok q) = refl
+read_eta (Err e) = refl
+
+-- ---- a sign, and then a form
+
+abbrev pub behind : {X : Type 0} → Token → (List Lexeme → Result (X × List Lexeme) Refusal) → List Lexeme → Result (X × List Lexeme) Refusal
+behind k R ts = sign_at k ts >>= R
+
+abbrev pub take_second : {X : Type 0} → Nothing → X → X
+take_second n x = x
+
+abbrev pub no_value : {X : Type 0} → X → Nothing
+no_value x = nothing
+
+abbrev pub itself : {X : Type 0} → X → X
+itself x = x
+
+behind_same : {X : Type 0} (R : List Lexeme → Result (X × List Lexeme) Refusal) (r : Result (List Lexeme) Refusal) → (r >>= R) ≡ ((r >>= passed) >>= λ p. R p.1 >>= λ q. read_ok (take_second p.0 q.0) q.1)
+behind_same R (Ok us) = read_eta (R us)
+behind_same R (Err e) = refl
+
+behind_joins : {X : Type 0} (D : X → Type 0) → Joins {X = Nothing} {Y = X} {W = X} Any D D take_second no_value itself
+behind_joins D = record {
+  first = λ x y d e. refl;
+  second = λ x y d e. refl;
+  fits = λ x y d e. e;
+  fits_first = λ w d. tt;
+  fits_second = λ w d. d;
+  back = λ w d. refl;
+}
+
+pub behind_reads : {X : Type 0} (k : Token) → IsSign k → (k ≡ End → ⊥) → (D : X → Type 0) (S : X → List Token) (R : List Lexeme → Result (X × List Lexeme) Refusal) → Reads D S R → (x0 : X) → D x0
+    → Reads D (λ x. k ∷ S x) (behind k R)
+behind_reads {X} k sign other D S R reads x0 d0 =
+    reads_same D (λ x. k ∷ S x) (both take_second (sign_reader k) R) (behind k R) (λ ts. behind_same R (sign_at k ts))
+      (both_reads Any D D take_second no_value itself (behind_joins D) (one_sign k) S (sign_reader k) R (sign_reads k sign other) reads x0 d0)
+
+-- ---- a form, and then a sign
+
+abbrev pub before : {X : Type 0} → (List Lexeme → Result (X × List Lexeme) Refusal) → Token → List Lexeme → Result (X × List Lexeme) Refusal
+before R k ts = R ts >>= λ x. sign_at k x.1 >>= λ us. read_ok x.0 us
+
+abbrev pub take_first : {X : Type 0} → X → Nothing → X
+take_first x n = x
+
+before_sign : {X : Type 0} (x : X) (r : Result (List Lexeme) Refusal) → (r >>= λ us. read_ok x us) ≡ ((r >>= passed) >>= λ q. read_ok (take_first x q.0) q.1)
+before_sign x (Ok us) = refl
+before_sign x (Err e) = refl
+
+before_same : {X : Type 0} (k : Token) (r : Result (X × List Lexeme) Refusal) → (r >>= λ x. sign_at k x.1 >>= λ us. read_ok x.0 us) ≡ (r >>= λ p. sign_reader k p.1 >>= λ q. read_ok (take_first p.0 q.0) q.1)
+before_same k (Ok p) = before_sign p.0 (sign_at k p.1)
+before_same k (Err e) = refl
+
+before_joins : {X : Type 0} (D : X → Type 0) → Joins {X = X} {Y = Nothing} {W = X} D Any D take_first itself no_value
+before_joins D = record {
+  first = λ x y d e. refl;
+  second = λ x y d e. refl;
+  fits = λ x y d e. d;
+  fits_first = λ w d. d;
+  fits_second = λ w d. tt;
+  back = λ w d. refl;
+}
+
+pub before_reads : {X : Type 0} (k : Token) → IsSign k → (k ≡ End → ⊥) → (D : X → Type 0) (S : X → List Token) (R : List Lexeme → Result (X × List Lexeme) Refusal) → Reads D S R
+    → Reads D (λ x. S x ++ k ∷ []) (before R k)
+before_reads {X} k sign other D S R reads =
+    reads_same D (λ x. S x ++ k ∷ []) (both take_first R (sign_reader k)) (before R k) (λ ts. before_same k (R ts))
+      (both_reads D Any D take_first itself no_value (before_joins D) S (one_sign k) R (sign_reader k) reads (sign_reads k sign other) nothing tt)

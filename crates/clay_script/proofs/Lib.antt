@@ -1,3 +1,5 @@
 pub mod Lexing
 pub mod Loops
 pub mod Laws
+pub mod Forms
+pub mod CommandForms
