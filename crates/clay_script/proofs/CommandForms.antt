@@ -31,7 +31,7 @@ abbrev pub more_tokens : List Argument → List Token
 more_tokens xs = flat_map after_comma (map argument_tokens xs)
 
 -- some arguments of these kinds
-abbrev plain_arguments : List Kind → List Argument
+abbrev pub plain_arguments : List Kind → List Argument
 plain_arguments [] = []
 plain_arguments (ANumber ∷ ks) = OneNumber (pos 0) ∷ plain_arguments ks
 plain_arguments (AVector ∷ ks) = OneVector [] ∷ plain_arguments ks
@@ -205,6 +205,54 @@ unfolding arguments_at
 arguments_reads n =
     both_reads Any (HaveKinds (kinds_of n)) (IsNamed n) (command_of n) prefix_of more_of (command_joins n) vector_tokens more_tokens vector_at (more_at (kinds_of n)) vector_reads (more_reads (kinds_of n)) (plain_arguments (kinds_of n)) (plain_kinds (kinds_of n))
 
-some_command : CommandName → Command
+abbrev pub some_command : CommandName → Command
 some_command n = command_of n [] (plain_arguments (kinds_of n))
 
+pub some_named : (n : CommandName) → name_of (some_command n) ≡ n
+some_named n = (made n [] (plain_arguments (kinds_of n)) (plain_kinds (kinds_of n))).named
+
+-- ---- commands
+
+-- what follows the name of a command
+abbrev pub rest_tokens : Command → List Token
+rest_tokens c = OpenRound ∷ (list_tokens c ++ CloseRound ∷ Semicolon ∷ [])
+
+abbrev closing : CommandName → List Lexeme → Result (Command × List Lexeme) Refusal
+closing n = before (before (arguments_at n) CloseRound) Semicolon
+
+semicolon_same : (c : Command) (r : Result (List Lexeme) Refusal)
+    → (r >>= λ b. sign_at Semicolon b >>= λ d. read_ok c d) ≡ ((r >>= λ us. read_ok c us) >>= λ x. sign_at Semicolon x.1 >>= λ us. read_ok x.0 us)
+semicolon_same c (Ok b) = refl
+semicolon_same c (Err r) = refl
+
+ends_same : (r : Result (Command × List Lexeme) Refusal)
+    → (r >>= λ c. sign_at CloseRound c.1 >>= λ b. sign_at Semicolon b >>= λ d. read_ok c.0 d) ≡ ((r >>= λ x. sign_at CloseRound x.1 >>= λ us. read_ok x.0 us) >>= λ x. sign_at Semicolon x.1 >>= λ us. read_ok x.0 us)
+ends_same (Ok c) = semicolon_same c.0 (sign_at CloseRound c.1)
+ends_same (Err r) = refl
+
+command_same : (n : CommandName) (r : Result (List Lexeme) Refusal)
+    → (r >>= λ a. arguments_at n a >>= λ c. sign_at CloseRound c.1 >>= λ b. sign_at Semicolon b >>= λ d. read_ok c.0 d) ≡ (r >>= closing n)
+command_same n (Ok a) = ends_same (arguments_at n a)
+command_same n (Err r) = refl
+
+round_not_end : OpenRound ≡ End → ⊥
+round_not_end e = absurd (let no : true ≡ false = cc in cc)
+
+close_not_end : CloseRound ≡ End → ⊥
+close_not_end e = absurd (let no : true ≡ false = cc in cc)
+
+semicolon_not_end : Semicolon ≡ End → ⊥
+semicolon_not_end e = absurd (let no : true ≡ false = cc in cc)
+
+closing_reads : (n : CommandName) → Reads (IsNamed n) (λ c. (list_tokens c ++ CloseRound ∷ []) ++ Semicolon ∷ []) (closing n)
+closing_reads n =
+    before_reads Semicolon refl semicolon_not_end (IsNamed n) (λ c. list_tokens c ++ CloseRound ∷ []) (before (arguments_at n) CloseRound)
+      (before_reads CloseRound refl close_not_end (IsNamed n) list_tokens (arguments_at n) (arguments_reads n))
+
+pub command_reads : (n : CommandName) → Reads (IsNamed n) rest_tokens (command_at n)
+unfolding command_at
+command_reads n =
+    reads_spelled (IsNamed n) (λ c. OpenRound ∷ ((list_tokens c ++ CloseRound ∷ []) ++ Semicolon ∷ [])) rest_tokens (command_at n)
+      (λ c d. ap (λ (l : List Token). OpenRound ∷ l) (sym (append_assoc (list_tokens c) (CloseRound ∷ []) (Semicolon ∷ []))))
+      (reads_same (IsNamed n) (λ c. OpenRound ∷ ((list_tokens c ++ CloseRound ∷ []) ++ Semicolon ∷ [])) (behind OpenRound (closing n)) (command_at n) (λ ts. command_same n (sign_at OpenRound ts))
+        (behind_reads OpenRound refl round_not_end (IsNamed n) (λ c. (list_tokens c ++ CloseRound ∷ []) ++ Semicolon ∷ []) (closing n) (closing_reads n) (some_command n) (some_named n)))

@@ -3,3 +3,4 @@ pub mod Loops
 pub mod Laws
 pub mod Forms
 pub mod CommandForms
+pub mod Weights
