@@ -4,3 +4,4 @@ pub mod Laws
 pub mod Forms
 pub mod CommandForms
 pub mod Weights
+pub mod Scripts
