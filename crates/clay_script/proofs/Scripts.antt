@@ -134,3 +134,123 @@ no_script : (k : Token) → (End ≡ k → ⊥) → ((name : CommandName) → Na
 no_script k no_end no_name ([], more, e) = no_end (sym (head_is k End more [] e))
 no_script k no_end no_name (c ∷ cs, more, e) =
     no_name (name_of c) (sym (head_is k (Name (Some (name_of c))) more (rest_tokens c ++ script_tokens cs) (e ∙ script_parts c cs)))
+
+-- two commands that stand first are one
+pub same_command : (c d : Command) (a b : List Token) → command_tokens c ++ a ≡ command_tokens d ++ b → (c ≡ d) × (a ≡ b)
+same_command c d a b e =
+    let heads : Name (Some (name_of c)) ≡ Name (Some (name_of d)) = head_is (Name (Some (name_of c))) (Name (Some (name_of d))) (rest_tokens c ++ a) (rest_tokens d ++ b) e in
+    let named : name_of c ≡ name_of d = cc in
+    unique (IsNamed (name_of d)) rest_tokens (command_at (name_of d)) (command_reads (name_of d)) c d a b named refl
+      (tail_is (Name (Some (name_of c))) (Name (Some (name_of d))) (rest_tokens c ++ a) (rest_tokens d ++ b) e)
+
+-- a script that begins with a command has it first
+first_command : (c : Command) (after : List Token) (cs : List Command) → command_tokens c ++ after ≡ script_tokens cs → (more : List Command) × (after ≡ script_tokens more)
+first_command c after [] e = absurd (name_not_end (Some (name_of c)) (head_is (Name (Some (name_of c))) End (rest_tokens c ++ after) [] e))
+first_command c after (d ∷ cs) e = (cs, (same_command c d after (script_tokens cs) (e ∙ script_parts d cs)).1)
+
+goes_on_after : (c : Command) (front : List Token) → GoesOn front → GoesOn (command_tokens c ++ front)
+goes_on_after c front (cs, more, e) =
+    (c ∷ cs, more, append_assoc (command_tokens c) front more ∙ (ap (λ (l : List Token). command_tokens c ++ l) e ∙ sym (script_parts c cs)))
+
+goes_on_without : (c : Command) (front : List Token) → GoesOn (command_tokens c ++ front) → GoesOn front
+goes_on_without c front (cs, more, e) =
+    let found = first_command c (front ++ more) cs (sym (append_assoc (command_tokens c) front more) ∙ e) in
+    (found.0, more, found.1)
+
+regroup : (c : Command) (front : List Token) (k : Token) → (command_tokens c ++ front) ++ k ∷ [] ≡ command_tokens c ++ (front ++ k ∷ [])
+regroup c front k = append_assoc (command_tokens c) front (k ∷ [])
+
+names_later : (c : Command) (front : List Token) → names_in (command_tokens c ++ front) ≡ suc (names_in front)
+names_later c front = omega (arith, names-append (command_tokens c) front, names-command c)
+
+fault_after : (n : ℕ) (c : Command) (front : List Token) (here : Lexeme) (r : Refusal) → IsFault n front here r → IsFault (suc n) (command_tokens c ++ front) here r
+fault_after n c front here (NumberTooLarge at) h = h
+fault_after n c front here (BadScript at) h =
+    (h.0, (λ g. h.1 (goes_on_without c (front ++ here.token ∷ []) (subst GoesOn (regroup c front here.token) g))), h.2)
+fault_after n c front here (Limit Commands zero) h =
+    (names_later c front ∙ ap suc h.0, h.1, subst GoesOn (sym (regroup c front here.token)) (goes_on_after c (front ++ here.token ∷ []) h.2))
+fault_after n c front here other h = absurd h
+
+fault_first : (n : ℕ) (t : Lexeme) (ts : List Lexeme) (r : Refusal) → (End ≡ t.token → ⊥) → ((name : CommandName) → Name (Some name) ≡ t.token → ⊥) → r ≡ fault_of t.token t.place → TextFault n (t ∷ ts) r
+fault_first n t ts r no_end no_name e = record {
+  front = []; here = t; rest = ts; begins = refl;
+  goes_on = ([], End ∷ [], refl);
+  room = omega arith;
+  fault = fault_is n [] t r e (no_script t.token no_end no_name);
+}
+
+fault_limit : (t : Lexeme) (ts : List Lexeme) (name : CommandName) (r : Refusal) → t.token ≡ Name (Some name) → r ≡ Limit Commands 0 → TextFault 0 (t ∷ ts) r
+fault_limit t ts name r e f =
+    let c : Command = some_command name in
+    let named : Name (Some (name_of c)) ≡ t.token = ap (λ (m : CommandName). Name (Some m)) (some_named name) ∙ sym e in
+    let goes : GoesOn (t.token ∷ []) = (c ∷ [], rest_tokens c ++ script_tokens [], ap (λ (k : Token). k ∷ (rest_tokens c ++ script_tokens [])) (sym named) ∙ sym (script_parts c [])) in
+    let one : names_in (t.token ∷ []) ≡ 1 = rw e refl in
+    record {
+      front = []; here = t; rest = ts; begins = refl;
+      goes_on = ([], End ∷ [], refl);
+      room = omega arith;
+      fault = subst (IsFault 0 [] t) (sym f) (refl, one, goes);
+    }
+
+never_within : (name : CommandName) (front : List Token) (k : Token)
+    → (stops : (c : Command) (after others : List Token) → IsNamed name c → rest_tokens c ++ after ≡ front ++ k ∷ others → ⊥)
+    → GoesOn ((Name (Some name) ∷ front) ++ k ∷ []) → ⊥
+never_within name front k stops ([], more, e) = name_not_end (Some name) (head_is (Name (Some name)) End ((front ++ k ∷ []) ++ more) [] e)
+never_within name front k stops (c ∷ cs, more, e) =
+    let f : Name (Some name) ∷ ((front ++ k ∷ []) ++ more) ≡ Name (Some (name_of c)) ∷ (rest_tokens c ++ script_tokens cs) = e ∙ script_parts c cs in
+    let heads : Name (Some name) ≡ Name (Some (name_of c)) = head_is (Name (Some name)) (Name (Some (name_of c))) ((front ++ k ∷ []) ++ more) (rest_tokens c ++ script_tokens cs) f in
+    let named : name_of c ≡ name = cc in
+    stops c (script_tokens cs) more named
+      (sym (tail_is (Name (Some name)) (Name (Some (name_of c))) ((front ++ k ∷ []) ++ more) (rest_tokens c ++ script_tokens cs) f) ∙ append_assoc front (k ∷ []) more)
+
+-- the fault stands within a command
+fault_within : (n : ℕ) (t : Lexeme) (ts : List Lexeme) (name : CommandName) (r : Refusal) → t.token ≡ Name (Some name) → Faulty (IsNamed name) rest_tokens ts r → TextFault (suc n) (t ∷ ts) r
+fault_within n t ts name r e f =
+    let k : Token = Name (Some name) in
+    let named : Name (Some (name_of f.some)) ≡ k = ap (λ (m : CommandName). Name (Some m)) f.some_fits in
+    let goes : GoesOn (k ∷ f.front) =
+      (f.some ∷ [], f.more ++ script_tokens [],
+        ap (λ (l : List Token). k ∷ l) (sym (append_assoc f.front f.more (script_tokens [])) ∙ ap (λ (l : List Token). l ++ script_tokens []) f.goes_on)
+        ∙ (ap (λ (m : Token). m ∷ (rest_tokens f.some ++ script_tokens [])) (sym named) ∙ sym (script_parts f.some []))) in
+    record {
+      front = k ∷ f.front; here = f.here; rest = f.rest;
+      begins = (e, f.begins);
+      goes_on = goes;
+      room = omega (arith, names-append f.front f.more, ap names_in f.goes_on, names-rest f.some);
+      fault = fault_is (suc n) (k ∷ f.front) f.here r f.is (never_within name f.front f.here.token f.stops);
+    }
+
+pub script_faults : (n : ℕ) (ts : List Lexeme) (r : Refusal) → IsText ts → commands_at n ts ≡ none_read r → TextFault n ts r
+unfolding commands_at
+script_faults zero [] r text e = absurd text
+script_faults (suc n) [] r text e = absurd text
+script_faults zero (t ∷ ts) r text e =
+    elim (head_cases t.token t.place (λ name. too_many)) [
+      | inl end ↦ absurd (read_or_not r [] (sym e ∙ end.1))
+      | inr (inl found) ↦ fault_limit t ts found.0 r found.1 (sym (same_fault (Limit Commands 0) r (sym found.2 ∙ e)))
+      | inr (inr other) ↦ fault_first 0 t ts r other.0 other.1 (sym (same_fault (fault_of t.token t.place) r (sym other.2 ∙ e)))
+    ]
+script_faults (suc n) (t ∷ ts) r text e =
+    elim (head_cases t.token t.place (λ name. command_at name ts >>= λ c. with_command c.0 (commands_at n c.1))) [
+      | inl end ↦ absurd (read_or_not r [] (sym e ∙ end.1))
+      | inr (inl found) ↦
+          let inner = text_after t ts (λ f. name_not_end (Some found.0) (sym found.1 ∙ f)) text in
+          elim (bind_err (command_at found.0 ts) (λ c. with_command c.0 (commands_at n c.1)) r (sym found.2 ∙ e)) [
+            | inl early ↦ fault_within n t ts found.0 r found.1 ((command_reads found.0).faults ts r inner early)
+            | inr step ↦
+                let c : Command = step.0.0 in
+                let own = (command_reads found.0).sound ts step.0.1 c step.1 in
+                let left = (command_reads found.0).keeps ts step.0.1 c step.1 inner in
+                let f = script_faults n step.0.1 r left (with_command_err c (commands_at n step.0.1) r step.2) in
+                let named : t.token ≡ Name (Some (name_of c)) = found.1 ∙ ap (λ (m : CommandName). Name (Some m)) (sym own.0) in
+                let first : Begins (command_tokens c) (t ∷ ts) step.0.1 = (named, own.1) in
+                record {
+                  front = command_tokens c ++ f.front; here = f.here; rest = f.rest;
+                  begins = Begins-join (command_tokens c) f.front (t ∷ ts) step.0.1 (f.here ∷ f.rest) first f.begins;
+                  goes_on = goes_on_after c f.front f.goes_on;
+                  room = omega (arith, names_later c f.front, f.room);
+                  fault = fault_after n c f.front f.here r f.fault;
+                }
+          ]
+      | inr (inr other) ↦ fault_first (suc n) t ts r other.0 other.1 (sym (same_fault (fault_of t.token t.place) r (sym other.2 ∙ e)))
+    ]
