@@ -30,7 +30,7 @@ sign_goes_on b rest =
     either (b == 40) _ _ rest refl (either (b == 41) _ _ rest refl (either (b == 91) _ _ rest refl (either (b == 93) _ _ rest refl (either (b == 44) _ _ rest refl (either (b == 59) _ _ rest refl refl)))))
 
 -- the token that some bytes are is not the end
-goes_on : (b : ℕ) (word : List ℕ) (rest : List Lexeme) → left_after (token_of (b ∷ word)) rest ≡ rest
+pub goes_on : (b : ℕ) (word : List ℕ) (rest : List Lexeme) → left_after (token_of (b ∷ word)) rest ≡ rest
 goes_on b word rest = either (is_letter b) _ _ rest refl (either (begins_number b) _ _ rest (number_goes_on (number_read (b ∷ word)) rest) (sign_goes_on b rest))
 
 pub some_length : (b : ℕ) (rest : List ℕ) → token_length (b ∷ rest) ≡ suc (token_length (b ∷ rest) - 1)
@@ -47,10 +47,10 @@ neither : (a b : Bool) → (a || b) ≡ false → (a ≡ false) × (b ≡ false)
 neither true b h = absurd cc
 neither false b h = (refl, h)
 
-abbrev lexeme_of : ℕ → Place → List ℕ → Lexeme
+abbrev pub lexeme_of : ℕ → Place → List ℕ → Lexeme
 lexeme_of k at s = record { token = token_of (take k s); place = at }
 
-lexemes_at : (at : Place) (b : ℕ) (s : List ℕ) → is_gap b ≡ false → (b == 35) ≡ false
+pub lexemes_at : (at : Place) (b : ℕ) (s : List ℕ) → is_gap b ≡ false → (b == 35) ≡ false
     → lexemes 0 at (b ∷ s) ≡ lexeme_of (token_length (b ∷ s)) at (b ∷ s) ∷ lexemes (token_length (b ∷ s) - 1) (place_after at b) s
 lexemes_at at b s e f = rw (e, f) refl
 

@@ -5,3 +5,4 @@ pub mod Forms
 pub mod CommandForms
 pub mod Weights
 pub mod Scripts
+pub mod Answers

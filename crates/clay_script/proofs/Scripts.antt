@@ -35,22 +35,22 @@ text_ends : (t : Lexeme) (ts : List Lexeme) → IsText (t ∷ ts) → t.token �
 text_ends t [] text e = refl
 text_ends t (u ∷ ts) text e = absurd (text.0 e)
 
-abbrev Commands_read : Type 0
+abbrev pub Commands_read : Type 0
 Commands_read = Result (List Command) Refusal
 
-abbrev all_read : List Command → Commands_read
+abbrev pub all_read : List Command → Commands_read
 all_read cs = Ok cs
 
-abbrev none_read : Refusal → Commands_read
+abbrev pub none_read : Refusal → Commands_read
 none_read r = Err r
 
 same_commands : (cs ds : List Command) → all_read cs ≡ all_read ds → cs ≡ ds
 same_commands cs ds e = cc
 
-read_or_not : (r : Refusal) (cs : List Command) → none_read r ≡ all_read cs → ⊥
+pub read_or_not : (r : Refusal) (cs : List Command) → none_read r ≡ all_read cs → ⊥
 read_or_not r cs e = absurd (let no : true ≡ false = cc in cc)
 
-same_fault : (r f : Refusal) → none_read r ≡ none_read f → r ≡ f
+pub same_fault : (r f : Refusal) → none_read r ≡ none_read f → r ≡ f
 same_fault r f e = cc
 
 with_command_ok : (c : Command) (r : Commands_read) (cs : List Command) → with_command c r ≡ all_read cs → (more : List Command) × (r ≡ all_read more) × (cs ≡ c ∷ more)

@@ -4,6 +4,8 @@ use Rattle.std.specs.List.{flat_map}
 use Rattle.suite_base.specs.declared.places.Place.{Place}
 use Rattle.suite_base.specs.declared.refusals.Refusal.{Refusal}
 use Rattle.suite_base.specs.declared.refusals.Refusal.TheVariants.{BadScript, NumberTooLarge, Limit}
+use Rattle.suite_base.specs.declared.refusals.Fail.{Fail}
+use Rattle.suite_base.specs.declared.refusals.Fail.TheVariants.{Memory, Refused}
 use Rattle.suite_base.specs.declared.refusals.Which.TheVariants.{Commands}
 use Rattle.clay_script.specs.declared.tokens.Token.{Token}
 use Rattle.clay_script.specs.declared.tokens.Token.TheVariants.{Name, Number, TooLarge, OpenRound, CloseRound, OpenSquare, CloseSquare, Comma, Semicolon, Stray, End}
@@ -76,3 +78,8 @@ pub record FirstFault (most : ℕ) (text : List Lexeme) (refusal : Refusal) : Ty
   pub before : GoesOn (tokens_of front)
   pub room : names_in (tokens_of front) ≤ most
   pub fault : IsFault most (tokens_of front) here refusal
+
+-- a call that failed had this cause, unless memory ran out
+abbrev pub Refuses : Fail → (Refusal → Type 0) → Type 0
+Refuses Memory Cause = Unit {0}
+Refuses (Refused r) Cause = Cause r
