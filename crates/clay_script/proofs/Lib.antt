@@ -6,3 +6,4 @@ pub mod CommandForms
 pub mod Weights
 pub mod Scripts
 pub mod Answers
+pub mod Printing

@@ -1,6 +1,9 @@
 //! Reading a script: one function for each form of its grammar.
 
-ghost use Rattle.std.specs.Prelude.{◌≡◌, ◌+◌, ◌<◌, ◌^◌, length};
+ghost use Rattle.std.specs.Prelude.{◌≡◌, ◌+◌, ◌<◌, ◌≤◌, ◌^◌, List, length, IfOk, IfErr};
+ghost use Rattle.suite_base.specs.declared.refusals.Refusal.{Refusal};
+ghost use Rattle.clay_script.specs.declared.commands.Command.{Command};
+ghost use Rattle.clay_script.specs.Grammar.{IsScript, FirstFault, Refuses};
 ghost use Rattle.clay_script.specs.Lexemes.{lexemes, lexemes_of};
 ghost use Rattle.clay_script.specs.Reading.{Gives, Passes, Answers, fault_of, sign_at, number_at, numbers_at, separator_at, with_front, items_at, vector_at, next_number_at, next_vector_at, rest_at, arguments_at, command_at, NextName, name_at, commands_at};
 ghost use Rattle.clay_script.specs.declared.tokens.Token.TheVariants.{OpenRound, CloseRound, OpenSquare, Comma, Semicolon};
@@ -25,7 +28,14 @@ pub const MAX_COMMANDS: usize = 4096;
 /// the command after the 4,096th.
 pub fn read_script(alloc: Global, bytes: &[u8]) -> Result<Script, Fail>
     requires { length bytes.now + 1 < 2 ^ 32 }
-    ensures { Answers result (commands_at 4096 (lexemes_of bytes.now)) }
+    // What is read is a text of the script.
+    ensures found { IfOk result (λ script. IsScript bytes.now script × (length script ≤ 4096)) }
+    // A text of a script is read as it, unless memory runs out.
+    ensures only { (script : List Command) → IsScript bytes.now script → length script ≤ 4096 → Answers result (Ok script) }
+    // A refusal names the first fault.
+    ensures refused { IfErr result (λ fail. Refuses fail (FirstFault 4096 (lexemes_of bytes.now))) }
+    // A text with a fault is refused by it, unless memory runs out.
+    ensures first { (refusal : Refusal) → FirstFault 4096 (lexemes_of bytes.now) refusal → Answers result (Err refusal) }
 {
     let mut lexer = Lexer::new(bytes);
     read_commands(alloc, &mut lexer)
