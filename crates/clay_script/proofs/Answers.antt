@@ -43,12 +43,12 @@ text_is zero at (b ∷ s) =
     elim (bool_tells (is_gap b)) [
       | inl gap ↦ rw gap (text_is 0 (place_after at b) s)
       | inr none ↦ elim (bool_tells (b == 35)) [
-          | inl comment ↦ rw (none, comment) (text_is (line_length s) (place_after at b) s)
-          | inr token ↦ subst IsText (sym (lexemes_at at b s none token)) (text_more (lexeme_of (token_length (b ∷ s)) at (b ∷ s)) (lexemes (token_length (b ∷ s) - 1) (place_after at b) s)
-              (λ e. not_the_end b (take (token_length (b ∷ s) - 1) s) (record { token = End; place = at })
-                (ap (λ n. token_of (take n (b ∷ s))) (sym (some_length b s)) ∙ e))
-              (text_is (token_length (b ∷ s) - 1) (place_after at b) s))
-        ]
+        | inl comment ↦ rw (none, comment) (text_is (line_length s) (place_after at b) s)
+        | inr token ↦ subst IsText (sym (lexemes_at at b s none token)) (text_more (lexeme_of (token_length (b ∷ s)) at (b ∷ s)) (lexemes (token_length (b ∷ s) - 1) (place_after at b) s)
+            (λ e. not_the_end b (take (token_length (b ∷ s) - 1) s) (record { token = End; place = at })
+            (ap (λ n. token_of (take n (b ∷ s))) (sym (some_length b s)) ∙ e))
+            (text_is (token_length (b ∷ s) - 1) (place_after at b) s))
+      ]
     ]
 
 -- ---- tokens and their places
@@ -90,7 +90,10 @@ first_fault : (n : ℕ) (ts : List Lexeme) (r : Refusal) → TextFault n ts r �
 first_fault n ts r f =
     let front = front_of f.front ts (f.here ∷ f.rest) f.begins in
     record {
-      front = front.at; here = f.here; rest = f.rest; parts = front.parts;
+      front = front.at;
+      here = f.here;
+      rest = f.rest;
+      parts = front.parts;
       before = subst GoesOn (sym front.tokens) f.goes_on;
       room = subst (λ (l : List Token). names_in l ≤ n) (sym front.tokens) f.room;
       fault = subst (λ (l : List Token). IsFault n l f.here r) (sym front.tokens) f.fault;
@@ -98,9 +101,13 @@ first_fault n ts r f =
 
 text_fault : (n : ℕ) (ts : List Lexeme) (r : Refusal) → FirstFault n ts r → TextFault n ts r
 text_fault n ts r f = record {
-  front = tokens_of f.front; here = f.here; rest = f.rest;
+  front = tokens_of f.front;
+  here = f.here;
+  rest = f.rest;
   begins = subst (λ (l : List Lexeme). Begins (tokens_of f.front) l (f.here ∷ f.rest)) (sym f.parts) (begins_of f.front (f.here ∷ f.rest));
-  goes_on = f.before; room = f.room; fault = f.fault;
+  goes_on = f.before;
+  room = f.room;
+  fault = f.fault;
 }
 
 -- ---- a text has one first fault
@@ -144,8 +151,8 @@ names_past n a k m le e f = absurd (omega (arith, names-append a (k ∷ m), name
 not_earlier : (n : ℕ) (a : List Token) (x : Lexeme) (r : Refusal) (b m : List Token) → b ≡ a ++ x.token ∷ m → GoesOn b → names_in b ≤ n → IsFault n a x r → ⊥
 not_earlier n a x r b m e (cs, more, f) room h =
     no_fault n a x r (m ++ more) cs
-      (sym (append_assoc a (x.token ∷ m) more) ∙ (ap (λ (l : List Token). l ++ more) (sym e) ∙ f))
-      (names_past n a x.token m (subst (λ (l : List Token). names_in l ≤ n) e room)) h
+    (sym (append_assoc a (x.token ∷ m) more) ∙ (ap (λ (l : List Token). l ++ more) (sym e) ∙ f))
+    (names_past n a x.token m (subst (λ (l : List Token). names_in l ≤ n) e room)) h
 
 large_agrees : (n : ℕ) (front : List Token) (here : Lexeme) (at : Place) (s : Refusal) → IsFault n front here (NumberTooLarge at) → IsFault n front here s → NumberTooLarge at ≡ s
 large_agrees n front here at (NumberTooLarge to) h k = ap NumberTooLarge (h.1 ∙ sym k.1)

@@ -108,13 +108,13 @@ no_kinds (x ∷ xs) h = absurd h
 none_reads : Reads (HaveKinds []) more_tokens (more_at [])
 none_reads = record {
   sound = λ ts us xs e.
-    let none : [] ≡ xs = same_value [] xs ts us e in
-    let left : ts ≡ us = same_left [] xs ts us e in
-    (subst (HaveKinds []) none tt, subst (λ (l : List Argument). Begins (more_tokens l) ts us) none left);
+      let none : [] ≡ xs = same_value [] xs ts us e in
+      let left : ts ≡ us = same_left [] xs ts us e in
+      (subst (HaveKinds []) none tt, subst (λ (l : List Argument). Begins (more_tokens l) ts us) none left);
   complete = λ ts us xs d h.
-    let none : [] ≡ xs = no_kinds xs d in
-    let left : ts ≡ us = subst (λ (l : List Argument). Begins (more_tokens l) ts us) (sym none) h in
-    rw (← none, left) refl;
+      let none : [] ≡ xs = no_kinds xs d in
+      let left : ts ≡ us = subst (λ (l : List Argument). Begins (more_tokens l) ts us) (sym none) h in
+      rw (← none, left) refl;
   keeps = λ ts us xs e h. subst IsText (same_left [] xs ts us e) h;
   faults = λ ts r h e. absurd (not_both r [] ts (sym e));
 }
@@ -123,10 +123,10 @@ pub more_reads : (ks : List Kind) → Reads (HaveKinds ks) more_tokens (more_at 
 more_reads [] = none_reads
 more_reads (ANumber ∷ ks) =
     reads_spelled (HaveKinds (ANumber ∷ ks)) (λ xs. next_number_tokens (first_number xs) ++ more_tokens (others xs)) more_tokens (more_at (ANumber ∷ ks)) (number_spelled ks)
-      (both_reads Any (HaveKinds ks) (HaveKinds (ANumber ∷ ks)) with_number_first first_number others (number_joins ks) next_number_tokens more_tokens next_number_at (more_at ks) next_number_reads (more_reads ks) (plain_arguments ks) (plain_kinds ks))
+    (both_reads Any (HaveKinds ks) (HaveKinds (ANumber ∷ ks)) with_number_first first_number others (number_joins ks) next_number_tokens more_tokens next_number_at (more_at ks) next_number_reads (more_reads ks) (plain_arguments ks) (plain_kinds ks))
 more_reads (AVector ∷ ks) =
     reads_spelled (HaveKinds (AVector ∷ ks)) (λ xs. next_vector_tokens (first_vector xs) ++ more_tokens (others xs)) more_tokens (more_at (AVector ∷ ks)) (vector_spelled ks)
-      (both_reads Any (HaveKinds ks) (HaveKinds (AVector ∷ ks)) with_vector_first first_vector others (vector_joins ks) next_vector_tokens more_tokens next_vector_at (more_at ks) next_vector_reads (more_reads ks) (plain_arguments ks) (plain_kinds ks))
+    (both_reads Any (HaveKinds ks) (HaveKinds (AVector ∷ ks)) with_vector_first first_vector others (vector_joins ks) next_vector_tokens more_tokens next_vector_at (more_at ks) next_vector_reads (more_reads ks) (plain_arguments ks) (plain_kinds ks))
 
 -- ---- the table of commands
 
@@ -247,12 +247,12 @@ semicolon_not_end e = absurd (let no : true ≡ false = cc in cc)
 closing_reads : (n : CommandName) → Reads (IsNamed n) (λ c. (list_tokens c ++ CloseRound ∷ []) ++ Semicolon ∷ []) (closing n)
 closing_reads n =
     before_reads Semicolon refl semicolon_not_end (IsNamed n) (λ c. list_tokens c ++ CloseRound ∷ []) (before (arguments_at n) CloseRound)
-      (before_reads CloseRound refl close_not_end (IsNamed n) list_tokens (arguments_at n) (arguments_reads n))
+    (before_reads CloseRound refl close_not_end (IsNamed n) list_tokens (arguments_at n) (arguments_reads n))
 
 pub command_reads : (n : CommandName) → Reads (IsNamed n) rest_tokens (command_at n)
 unfolding command_at
 command_reads n =
     reads_spelled (IsNamed n) (λ c. OpenRound ∷ ((list_tokens c ++ CloseRound ∷ []) ++ Semicolon ∷ [])) rest_tokens (command_at n)
-      (λ c d. ap (λ (l : List Token). OpenRound ∷ l) (sym (append_assoc (list_tokens c) (CloseRound ∷ []) (Semicolon ∷ []))))
-      (reads_same (IsNamed n) (λ c. OpenRound ∷ ((list_tokens c ++ CloseRound ∷ []) ++ Semicolon ∷ [])) (behind OpenRound (closing n)) (command_at n) (λ ts. command_same n (sign_at OpenRound ts))
-        (behind_reads OpenRound refl round_not_end (IsNamed n) (λ c. (list_tokens c ++ CloseRound ∷ []) ++ Semicolon ∷ []) (closing n) (closing_reads n) (some_command n) (some_named n)))
+    (λ c d. ap (λ (l : List Token). OpenRound ∷ l) (sym (append_assoc (list_tokens c) (CloseRound ∷ []) (Semicolon ∷ []))))
+    (reads_same (IsNamed n) (λ c. OpenRound ∷ ((list_tokens c ++ CloseRound ∷ []) ++ Semicolon ∷ [])) (behind OpenRound (closing n)) (command_at n) (λ ts. command_same n (sign_at OpenRound ts))
+    (behind_reads OpenRound refl round_not_end (IsNamed n) (λ c. (list_tokens c ++ CloseRound ∷ []) ++ Semicolon ∷ []) (closing n) (closing_reads n) (some_command n) (some_named n)))

@@ -77,12 +77,12 @@ tail_sound (t ∷ u ∷ ts) us zs e =
           let none : [] ≡ zs = same_value [] zs (u ∷ ts) us found in
           subst (λ (l : List ℤ). Begins (tail_tokens l) (t ∷ u ∷ ts) us) none (close.0, same_left [] zs (u ∷ ts) us found)
       | inr (inl comma) ↦ elim (number_cases u.token u.place (λ z. with_number z (numbers_at ts))) [
-          | inl number ↦
-              let rest = with_ok number.0 (numbers_at ts) zs us (sym number.2 ∙ (sym comma.1 ∙ e)) in
-              let begins : Begins (tail_tokens rest.0) ts us = tail_sound ts us rest.0 rest.1 in
-              subst (λ (l : List ℤ). Begins (tail_tokens l) (t ∷ u ∷ ts) us) (sym rest.2) (comma.0, (number.1, begins))
-          | inr bad ↦ absurd (not_both (fault_of u.token u.place) zs us (sym bad.1 ∙ (sym comma.1 ∙ e)))
-        ]
+        | inl number ↦
+            let rest = with_ok number.0 (numbers_at ts) zs us (sym number.2 ∙ (sym comma.1 ∙ e)) in
+            let begins : Begins (tail_tokens rest.0) ts us = tail_sound ts us rest.0 rest.1 in
+            subst (λ (l : List ℤ). Begins (tail_tokens l) (t ∷ u ∷ ts) us) (sym rest.2) (comma.0, (number.1, begins))
+        | inr bad ↦ absurd (not_both (fault_of u.token u.place) zs us (sym bad.1 ∙ (sym comma.1 ∙ e)))
+      ]
       | inr (inr other) ↦ absurd (not_both (fault_of t.token t.place) zs us (sym other.2 ∙ e))
     ]
 
@@ -124,22 +124,43 @@ TailFaulty ts r = Faulty {X = List ℤ} Any tail_tokens ts r
 
 tail_first : (t : Lexeme) (ts : List Lexeme) (r : Refusal) → (CloseSquare ≡ t.token → ⊥) → (Comma ≡ t.token → ⊥) → r ≡ fault_of t.token t.place → TailFaulty (t ∷ ts) r
 tail_first t ts r no_close no_comma e = record {
-  front = []; here = t; rest = ts; begins = refl; is = e;
-  some = []; some_fits = tt; more = CloseSquare ∷ []; goes_on = refl;
+  front = [];
+  here = t;
+  rest = ts;
+  begins = refl;
+  is = e;
+  some = [];
+  some_fits = tt;
+  more = CloseSquare ∷ [];
+  goes_on = refl;
   stops = λ zs after others d f. tail_head t.token zs after others no_close no_comma f;
 }
 
 tail_second : (t u : Lexeme) (ts : List Lexeme) (r : Refusal) → t.token ≡ Comma → ((z : ℤ) → Number z ≡ u.token → ⊥) → r ≡ fault_of u.token u.place → TailFaulty (t ∷ u ∷ ts) r
 tail_second t u ts r comma no_number e = record {
-  front = Comma ∷ []; here = u; rest = ts; begins = (comma, refl); is = e;
-  some = pos 0 ∷ []; some_fits = tt; more = Number (pos 0) ∷ CloseSquare ∷ []; goes_on = refl;
+  front = Comma ∷ [];
+  here = u;
+  rest = ts;
+  begins = (comma, refl);
+  is = e;
+  some = pos 0 ∷ [];
+  some_fits = tt;
+  more = Number (pos 0) ∷ CloseSquare ∷ [];
+  goes_on = refl;
   stops = λ zs after others d f. tail_number u.token zs after others no_number f;
 }
 
 tail_third : (t u : Lexeme) (ts : List Lexeme) (z : ℤ) (r : Refusal) → t.token ≡ Comma → u.token ≡ Number z → TailFaulty ts r → TailFaulty (t ∷ u ∷ ts) r
 tail_third t u ts z r comma number f = record {
-  front = Comma ∷ Number z ∷ f.front; here = f.here; rest = f.rest; begins = (comma, (number, f.begins)); is = f.is;
-  some = z ∷ f.some; some_fits = tt; more = f.more; goes_on = ap (λ (l : List Token). Comma ∷ Number z ∷ l) f.goes_on;
+  front = Comma ∷ Number z ∷ f.front;
+  here = f.here;
+  rest = f.rest;
+  begins = (comma, (number, f.begins));
+  is = f.is;
+  some = z ∷ f.some;
+  some_fits = tt;
+  more = f.more;
+  goes_on = ap (λ (l : List Token). Comma ∷ Number z ∷ l) f.goes_on;
   stops = λ zs after others d e. tail_later z f.front f.here.token (λ ys rest more g. f.stops ys rest more tt g) zs after others e;
 }
 
@@ -157,12 +178,12 @@ tail_faults (t ∷ u ∷ ts) r text e =
     elim (separator_cases t.token t.place (read_ok {X = List ℤ} [] (u ∷ ts)) more) [
       | inl close ↦ absurd (not_both r [] (u ∷ ts) (sym e ∙ close.1))
       | inr (inl comma) ↦ elim (number_cases u.token u.place (λ z. with_number z (numbers_at ts))) [
-          | inl number ↦
-              let after = text_after t (u ∷ ts) (not_end t.token Comma comma.0 comma_not_end) text in
-              let later = text_after u ts (not_end u.token (Number number.0) number.1 (number_not_end number.0)) after in
-              tail_third t u ts number.0 r comma.0 number.1 (tail_faults ts r later (with_err number.0 (numbers_at ts) r (sym number.2 ∙ (sym comma.1 ∙ e))))
-          | inr bad ↦ tail_second t u ts r comma.0 bad.0 (sym (same_refusal (fault_of u.token u.place) r (sym bad.1 ∙ (sym comma.1 ∙ e))))
-        ]
+        | inl number ↦
+            let after = text_after t (u ∷ ts) (not_end t.token Comma comma.0 comma_not_end) text in
+            let later = text_after u ts (not_end u.token (Number number.0) number.1 (number_not_end number.0)) after in
+            tail_third t u ts number.0 r comma.0 number.1 (tail_faults ts r later (with_err number.0 (numbers_at ts) r (sym number.2 ∙ (sym comma.1 ∙ e))))
+        | inr bad ↦ tail_second t u ts r comma.0 bad.0 (sym (same_refusal (fault_of u.token u.place) r (sym bad.1 ∙ (sym comma.1 ∙ e))))
+      ]
       | inr (inr other) ↦ tail_first t (u ∷ ts) r other.0 other.1 (sym (same_refusal (fault_of t.token t.place) r (sym other.2 ∙ e)))
     ]
 
@@ -174,7 +195,7 @@ items_tokens zs = separated (map one_number zs) ++ CloseSquare ∷ []
 
 first_cases : (t : Token) (at : Place) (ts : List Lexeme)
     → ((t ≡ CloseSquare) × (first_number_of t at ts ≡ read_ok [] ts)) ⊎ (((z : ℤ) × (t ≡ Number z) × (first_number_of t at ts ≡ with_number z (numbers_at ts)))
-      ⊎ ((CloseSquare ≡ t → ⊥) × ((z : ℤ) → Number z ≡ t → ⊥) × (first_number_of t at ts ≡ Err (fault_of t at))))
+    ⊎ ((CloseSquare ≡ t → ⊥) × ((z : ℤ) → Number z ≡ t → ⊥) × (first_number_of t at ts ≡ Err (fault_of t at))))
 first_cases CloseSquare at ts = inl (refl, refl)
 first_cases (Number z) at ts = inr (inl (z, refl, refl))
 first_cases other at ts = inr (inr ((λ e. absurd (let no : true ≡ false = cc in cc)), (λ z e. absurd (let no : true ≡ false = cc in cc)), refl))
@@ -225,14 +246,28 @@ items_faults (t ∷ ts) r text e =
           let after = text_after t ts (not_end t.token (Number z) number.1 (number_not_end z)) text in
           let f = tail_faults ts r after (with_err z (numbers_at ts) r (sym number.2 ∙ e)) in
           record {
-            front = Number z ∷ f.front; here = f.here; rest = f.rest; begins = (number.1, f.begins); is = f.is;
-            some = z ∷ f.some; some_fits = tt; more = f.more; goes_on = ap (λ (l : List Token). Number z ∷ l) f.goes_on;
+            front = Number z ∷ f.front;
+            here = f.here;
+            rest = f.rest;
+            begins = (number.1, f.begins);
+            is = f.is;
+            some = z ∷ f.some;
+            some_fits = tt;
+            more = f.more;
+            goes_on = ap (λ (l : List Token). Number z ∷ l) f.goes_on;
             stops = λ zs rest others d g. items_later z f.front f.here.token (λ ys a b k. f.stops ys a b tt k) zs rest others g;
           }
       | inr (inr other) ↦
           record {
-            front = []; here = t; rest = ts; begins = refl; is = sym (same_refusal (fault_of t.token t.place) r (sym other.2 ∙ e));
-            some = []; some_fits = tt; more = CloseSquare ∷ []; goes_on = refl;
+            front = [];
+            here = t;
+            rest = ts;
+            begins = refl;
+            is = sym (same_refusal (fault_of t.token t.place) r (sym other.2 ∙ e));
+            some = [];
+            some_fits = tt;
+            more = CloseSquare ∷ [];
+            goes_on = refl;
             stops = λ zs after others d f. items_head t.token zs after others other.0 other.1 f;
           }
     ]

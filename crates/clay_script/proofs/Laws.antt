@@ -115,7 +115,6 @@ both g R Q ts = R ts >>= λ p. Q p.1 >>= λ q. read_ok (g p.0 q.0) q.1
 module _ {X Y W : Type 0} (D1 : X → Type 0) (D2 : Y → Type 0) (D : W → Type 0) (g : X → Y → W) (a : W → X) (b : W → Y) (joins : Joins D1 D2 D g a b)
     (S1 : X → List Token) (S2 : Y → List Token) (R : List Lexeme → Result (X × List Lexeme) Refusal) (Q : List Lexeme → Result (Y × List Lexeme) Refusal)
     (one : Reads D1 S1 R) (two : Reads D2 S2 Q) (y0 : Y) (y0_fits : D2 y0) where
-
   abbrev spelled : W → List Token
   spelled w = S1 (a w) ++ S2 (b w)
 
@@ -151,7 +150,11 @@ module _ {X Y W : Type 0} (D1 : X → Type 0) (D2 : Y → Type 0) (D : W → Typ
   faulty_first ts r f =
       let parts : spelled (g f.some y0) ≡ S1 f.some ++ S2 y0 = rw (joins.first f.some y0 f.some_fits y0_fits, joins.second f.some y0 f.some_fits y0_fits) refl in
       record {
-        front = f.front; here = f.here; rest = f.rest; begins = f.begins; is = f.is;
+        front = f.front;
+        here = f.here;
+        rest = f.rest;
+        begins = f.begins;
+        is = f.is;
         some = g f.some y0;
         some_fits = joins.fits f.some y0 f.some_fits y0_fits;
         more = f.more ++ S2 y0;
@@ -164,7 +167,9 @@ module _ {X Y W : Type 0} (D1 : X → Type 0) (D2 : Y → Type 0) (D : W → Typ
       let h = one.sound ts mid x e in
       let parts : spelled (g x f.some) ≡ S1 x ++ S2 f.some = rw (joins.first x f.some h.0 f.some_fits, joins.second x f.some h.0 f.some_fits) refl in
       record {
-        front = S1 x ++ f.front; here = f.here; rest = f.rest;
+        front = S1 x ++ f.front;
+        here = f.here;
+        rest = f.rest;
         begins = Begins-join (S1 x) f.front ts mid (f.here ∷ f.rest) h.1 f.begins;
         is = f.is;
         some = g x f.some;
@@ -172,9 +177,9 @@ module _ {X Y W : Type 0} (D1 : X → Type 0) (D2 : Y → Type 0) (D : W → Typ
         more = f.more;
         goes_on = append_assoc (S1 x) f.front f.more ∙ (ap (λ (l : List Token). S1 x ++ l) f.goes_on ∙ sym parts);
         stops = λ w after others d e.
-          let same = unique D1 S1 R one (a w) x (S2 (b w) ++ after) (f.front ++ f.here.token ∷ others) (joins.fits_first w d) h.0
+            let same = unique D1 S1 R one (a w) x (S2 (b w) ++ after) (f.front ++ f.here.token ∷ others) (joins.fits_first w d) h.0
             (sym (append_assoc (S1 (a w)) (S2 (b w)) after) ∙ (e ∙ append_assoc (S1 x) f.front (f.here.token ∷ others))) in
-          f.stops (b w) after others (joins.fits_second w d) same.1;
+            f.stops (b w) after others (joins.fits_second w d) same.1;
       }
 
   both_faults : (ts : List Lexeme) (r : Refusal) → IsText ts → both g R Q ts ≡ read_err r → Faulty D spelled ts r
@@ -182,9 +187,9 @@ module _ {X Y W : Type 0} (D1 : X → Type 0) (D2 : Y → Type 0) (D : W → Typ
       elim (bind_err (R ts) (λ p. Q p.1 >>= λ q. read_ok (g p.0 q.0) q.1) r e) [
         | inl early ↦ faulty_first ts r (one.faults ts r h early)
         | inr p ↦ elim (bind_err (Q p.0.1) (λ q. read_ok (g p.0.0 q.0) q.1) r p.2) [
-            | inl late ↦ faulty_second ts p.0.1 p.0.0 r p.1 (two.faults p.0.1 r (one.keeps ts p.0.1 p.0.0 p.1 h) late)
-            | inr q ↦ absurd (not_both r (g p.0.0 q.0.0) q.0.1 (sym q.2))
-          ]
+          | inl late ↦ faulty_second ts p.0.1 p.0.0 r p.1 (two.faults p.0.1 r (one.keeps ts p.0.1 p.0.0 p.1 h) late)
+          | inr q ↦ absurd (not_both r (g p.0.0 q.0.0) q.0.1 (sym q.2))
+        ]
       ]
 
   pub both_reads : Reads D spelled (both g R Q)
@@ -236,8 +241,15 @@ number_faults [] r h e = absurd h
 number_faults (t ∷ ts) r h e =
     let found = large_or_not t.token t.place r ts e in
     record {
-      front = []; here = t; rest = ts; begins = refl; is = found.0;
-      some = pos 0; some_fits = tt; more = one_number (pos 0); goes_on = refl;
+      front = [];
+      here = t;
+      rest = ts;
+      begins = refl;
+      is = found.0;
+      some = pos 0;
+      some_fits = tt;
+      more = one_number (pos 0);
+      goes_on = refl;
       stops = λ x after others d f. found.1 x (head_is (Number x) t.token after others f);
     }
 
@@ -287,7 +299,6 @@ lost_sign true t ts r e = absurd (not_both r nothing ts (sym e))
 lost_sign false t ts r e = (refl, sym (same_refusal (fault_of t.token t.place) r e))
 
 module _ (k : Token) (sign : IsSign k) (other : k ≡ End → ⊥) where
-
   sign_sound : (ts us : List Lexeme) (x : Nothing) → sign_reader k ts ≡ read_ok x us → Any x × Begins (one_sign k x) ts us
   sign_sound [] us x e = absurd (not_both ended nothing us e)
   sign_sound (t ∷ ts) us x e = let found = found_sign (same_sign k t.token) t ts us e in (tt, (same_is k t.token found.0, found.1))
@@ -307,12 +318,19 @@ module _ (k : Token) (sign : IsSign k) (other : k ≡ End → ⊥) where
   sign_faults (t ∷ ts) r h e =
       let lost = lost_sign (same_sign k t.token) t ts r e in
       record {
-        front = []; here = t; rest = ts; begins = refl; is = lost.1;
-        some = tt; some_fits = tt; more = k ∷ []; goes_on = refl;
+        front = [];
+        here = t;
+        rest = ts;
+        begins = refl;
+        is = lost.1;
+        some = tt;
+        some_fits = tt;
+        more = k ∷ [];
+        goes_on = refl;
         stops = λ x after others d f.
-          let same : k ≡ t.token = head_is k t.token after others f in
-          let yes : same_sign k t.token ≡ true = rw (← same) sign in
-          absurd (let no : false ≡ true = sym lost.0 ∙ yes in cc);
+            let same : k ≡ t.token = head_is k t.token after others f in
+            let yes : same_sign k t.token ≡ true = rw (← same) sign in
+            absurd (let no : false ≡ true = sym lost.0 ∙ yes in cc);
       }
 
   pub sign_reads : Reads {X = Nothing} Any (one_sign k) (sign_reader k)
@@ -322,18 +340,24 @@ module _ (k : Token) (sign : IsSign k) (other : k ≡ End → ⊥) where
 pub reads_spelled : {X : Type 0} (D : X → Type 0) (S T : X → List Token) (R : List Lexeme → Result (X × List Lexeme) Refusal) → ((x : X) → D x → T x ≡ S x) → Reads D S R → Reads D T R
 reads_spelled D S T R same reads = record {
   sound = λ ts us x e.
-    let h = reads.sound ts us x e in
-    (h.0, subst (λ (l : List Token). Begins l ts us) (sym (same x h.0)) h.1);
+      let h = reads.sound ts us x e in
+      (h.0, subst (λ (l : List Token). Begins l ts us) (sym (same x h.0)) h.1);
   complete = λ ts us x d h. reads.complete ts us x d (subst (λ (l : List Token). Begins l ts us) (same x d) h);
   keeps = reads.keeps;
   faults = λ ts r h e.
-    let f = reads.faults ts r h e in
-    record {
-      front = f.front; here = f.here; rest = f.rest; begins = f.begins; is = f.is;
-      some = f.some; some_fits = f.some_fits; more = f.more;
-      goes_on = f.goes_on ∙ sym (same f.some f.some_fits);
-      stops = λ x after others d g. f.stops x after others d (ap (λ (l : List Token). l ++ after) (sym (same x d)) ∙ g);
-    };
+      let f = reads.faults ts r h e in
+      record {
+        front = f.front;
+        here = f.here;
+        rest = f.rest;
+        begins = f.begins;
+        is = f.is;
+        some = f.some;
+        some_fits = f.some_fits;
+        more = f.more;
+        goes_on = f.goes_on ∙ sym (same f.some f.some_fits);
+        stops = λ x after others d g. f.stops x after others d (ap (λ (l : List Token). l ++ after) (sym (same x d)) ∙ g);
+      };
 }
 
 read_eta : {X : Type 0} (r : Result (X × List Lexeme) Refusal) → r ≡ (r >>= λ q. read_ok q.0 q.1)
@@ -372,7 +396,7 @@ pub behind_reads : {X : Type 0} (k : Token) → IsSign k → (k ≡ End → ⊥)
     → Reads D (λ x. k ∷ S x) (behind k R)
 behind_reads {X} k sign other D S R reads x0 d0 =
     reads_same D (λ x. k ∷ S x) (both take_second (sign_reader k) R) (behind k R) (λ ts. behind_same R (sign_at k ts))
-      (both_reads Any D D take_second no_value itself (behind_joins D) (one_sign k) S (sign_reader k) R (sign_reads k sign other) reads x0 d0)
+    (both_reads Any D D take_second no_value itself (behind_joins D) (one_sign k) S (sign_reader k) R (sign_reads k sign other) reads x0 d0)
 
 -- ---- a form, and then a sign
 
@@ -404,4 +428,4 @@ pub before_reads : {X : Type 0} (k : Token) → IsSign k → (k ≡ End → ⊥)
     → Reads D (λ x. S x ++ k ∷ []) (before R k)
 before_reads {X} k sign other D S R reads =
     reads_same D (λ x. S x ++ k ∷ []) (both take_first R (sign_reader k)) (before R k) (λ ts. before_same k (R ts))
-      (both_reads D Any D take_first itself no_value (before_joins D) S (one_sign k) R (sign_reader k) reads (sign_reads k sign other) nothing tt)
+    (both_reads D Any D take_first itself no_value (before_joins D) S (one_sign k) R (sign_reader k) reads (sign_reads k sign other) nothing tt)

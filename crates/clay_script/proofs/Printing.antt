@@ -30,8 +30,8 @@ plain skip [] = End ∷ []
 plain (suc skip) (b ∷ rest) = plain skip rest
 plain zero (b ∷ rest) =
     cond (is_gap b) (plain 0 rest)
-      (cond (b == 35) (plain (line_length rest) rest)
-        (token_of (take (token_length (b ∷ rest)) (b ∷ rest)) ∷ plain (token_length (b ∷ rest) - 1) rest))
+    (cond (b == 35) (plain (line_length rest) rest)
+    (token_of (take (token_length (b ∷ rest)) (b ∷ rest)) ∷ plain (token_length (b ∷ rest) - 1) rest))
 
 tokens_choice : (b : Bool) (x y : List Lexeme) → tokens_of (cond b x y) ≡ cond b (tokens_of x) (tokens_of y)
 tokens_choice true x y = refl
@@ -49,9 +49,9 @@ plain_is zero at (b ∷ rest) =
     let later : List Lexeme = token ∷ lexemes (token_length (b ∷ rest) - 1) (place_after at b) rest in
     tokens_choice (is_gap b) (lexemes 0 (place_after at b) rest) (cond (b == 35) (lexemes (line_length rest) (place_after at b) rest) later)
     ∙ plain_choice (is_gap b) _ _ _ _ (plain_is 0 (place_after at b) rest)
-        (tokens_choice (b == 35) (lexemes (line_length rest) (place_after at b) rest) later
-        ∙ plain_choice (b == 35) _ _ _ _ (plain_is (line_length rest) (place_after at b) rest)
-            (ap (λ (l : List Token). token.token ∷ l) (plain_is (token_length (b ∷ rest) - 1) (place_after at b) rest)))
+    (tokens_choice (b == 35) (lexemes (line_length rest) (place_after at b) rest) later
+    ∙ plain_choice (b == 35) _ _ _ _ (plain_is (line_length rest) (place_after at b) rest)
+    (ap (λ (l : List Token). token.token ∷ l) (plain_is (token_length (b ∷ rest) - 1) (place_after at b) rest)))
 
 plain_past : (word rest : List ℕ) → plain (length word) (word ++ rest) ≡ plain 0 rest
 plain_past [] rest = refl
@@ -205,7 +205,7 @@ more_first (x ∷ xs) rest fit =
     let parts : flat_map behind_comma (map argument_text (x ∷ xs)) ++ (codes ");\n" ++ rest) ≡ codes ", " ++ (argument_text x ++ left) = append_assoc (behind_comma (argument_text x)) (flat_map behind_comma (map argument_text xs)) (codes ");\n" ++ rest) in
     ap (plain 0) parts ∙ (comma_first (argument_text x ++ left)
     ∙ ap (λ (l : List Token). Comma ∷ l) (argument_first x left fit.0 (more_end xs rest) ∙ (ap (λ (l : List Token). argument_tokens x ++ l) (more_first xs rest fit.1)
-      ∙ sym (append_assoc (argument_tokens x) (flat_map after_comma (map argument_tokens xs)) (ending rest)))))
+    ∙ sym (append_assoc (argument_tokens x) (flat_map after_comma (map argument_tokens xs)) (ending rest)))))
 
 list_first : (x : Argument) (xs : List Argument) (rest : List ℕ) → FitArguments (x ∷ xs)
     → plain 0 (comma_joined (map argument_text (x ∷ xs)) ++ (codes ");\n" ++ rest)) ≡ separated (map argument_tokens (x ∷ xs)) ++ ending rest
@@ -213,16 +213,16 @@ list_first x xs rest fit =
     let left : List ℕ = flat_map behind_comma (map argument_text xs) ++ (codes ");\n" ++ rest) in
     ap (plain 0) (append_assoc (argument_text x) (flat_map behind_comma (map argument_text xs)) (codes ");\n" ++ rest))
     ∙ (argument_first x left fit.0 (more_end xs rest) ∙ (ap (λ (l : List Token). argument_tokens x ++ l) (more_first xs rest fit.1)
-      ∙ sym (append_assoc (argument_tokens x) (flat_map after_comma (map argument_tokens xs)) (ending rest))))
+    ∙ sym (append_assoc (argument_tokens x) (flat_map after_comma (map argument_tokens xs)) (ending rest))))
 
 command_first : (c : Command) (rest : List ℕ) → FitArguments (arguments_of c) → plain 0 (command_text c ++ rest) ≡ command_tokens c ++ plain 0 rest
 command_first c rest fit =
     let joined : List ℕ = comma_joined (map argument_text (arguments_of c)) in
     let parts : command_text c ++ rest ≡ letters_of (name_of c) ++ codes "(" ++ (joined ++ (codes ");\n" ++ rest)) =
-      append_assoc (letters_of (name_of c) ++ codes "(" ++ joined) (codes ");\n") rest ∙ append_assoc (letters_of (name_of c) ++ codes "(") joined (codes ");\n" ++ rest) in
+    append_assoc (letters_of (name_of c) ++ codes "(" ++ joined) (codes ");\n") rest ∙ append_assoc (letters_of (name_of c) ++ codes "(") joined (codes ");\n" ++ rest) in
     ap (plain 0) parts ∙ (name_first (name_of c) (joined ++ (codes ");\n" ++ rest))
     ∙ ap (λ (l : List Token). Name (Some (name_of c)) ∷ OpenRound ∷ l)
-        (list_first (OneVector (prefix_of c)) (more_of c) rest fit ∙ sym (append_assoc (separated (map argument_tokens (arguments_of c))) (CloseRound ∷ Semicolon ∷ []) (plain 0 rest))))
+    (list_first (OneVector (prefix_of c)) (more_of c) rest fit ∙ sym (append_assoc (separated (map argument_tokens (arguments_of c))) (CloseRound ∷ Semicolon ∷ []) (plain 0 rest))))
 
 script_first : (cs : List Command) → FitCommands cs → plain 0 (layout cs) ≡ script_tokens cs
 script_first [] fit = refl

@@ -23,7 +23,7 @@ use Rattle.clay_script.proofs.Weights.{names-append, names-rest, names-command}
 
 head_cases : (t : Token) (at : Place) (next : CommandName → Result (List Command) Refusal)
     → ((t ≡ End) × (head_of t at next ≡ Ok [])) ⊎ (((name : CommandName) × (t ≡ Name (Some name)) × (head_of t at next ≡ next name))
-      ⊎ ((End ≡ t → ⊥) × ((name : CommandName) → Name (Some name) ≡ t → ⊥) × (head_of t at next ≡ Err (fault_of t at))))
+    ⊎ ((End ≡ t → ⊥) × ((name : CommandName) → Name (Some name) ≡ t → ⊥) × (head_of t at next ≡ Err (fault_of t at))))
 head_cases End at next = inl (refl, refl)
 head_cases (Name (Some name)) at next = inr (inl (name, refl, refl))
 head_cases other at next = inr (inr ((λ e. absurd (let no : true ≡ false = cc in cc)), (λ name e. absurd (let no : true ≡ false = cc in cc)), refl))
@@ -93,7 +93,7 @@ script_sound (suc n) (t ∷ ts) cs text e =
           let named : t.token ≡ Name (Some (name_of step.0.0)) = found.1 ∙ ap (λ (m : CommandName). Name (Some m)) (sym own.0) in
           let first : Begins (command_tokens step.0.0) (t ∷ ts) step.0.1 = (named, own.1) in
           let whole : Begins (script_tokens (step.0.0 ∷ rest.0)) (t ∷ ts) [] =
-            subst (λ (l : List Token). Begins l (t ∷ ts) []) (sym (script_parts step.0.0 rest.0)) (Begins-join (command_tokens step.0.0) (script_tokens rest.0) (t ∷ ts) step.0.1 [] first later.0) in
+          subst (λ (l : List Token). Begins l (t ∷ ts) []) (sym (script_parts step.0.0 rest.0)) (Begins-join (command_tokens step.0.0) (script_tokens rest.0) (t ∷ ts) step.0.1 [] first later.0) in
           subst (λ (l : List Command). Begins (script_tokens l) (t ∷ ts) [] × (length l ≤ suc n)) (sym rest.2) (whole, omega (arith, later.1))
       | inr (inr other) ↦ absurd (read_or_not (fault_of t.token t.place) cs (sym other.2 ∙ e))
     ]
@@ -141,7 +141,7 @@ same_command c d a b e =
     let heads : Name (Some (name_of c)) ≡ Name (Some (name_of d)) = head_is (Name (Some (name_of c))) (Name (Some (name_of d))) (rest_tokens c ++ a) (rest_tokens d ++ b) e in
     let named : name_of c ≡ name_of d = cc in
     unique (IsNamed (name_of d)) rest_tokens (command_at (name_of d)) (command_reads (name_of d)) c d a b named refl
-      (tail_is (Name (Some (name_of c))) (Name (Some (name_of d))) (rest_tokens c ++ a) (rest_tokens d ++ b) e)
+    (tail_is (Name (Some (name_of c))) (Name (Some (name_of d))) (rest_tokens c ++ a) (rest_tokens d ++ b) e)
 
 -- a script that begins with a command has it first
 first_command : (c : Command) (after : List Token) (cs : List Command) → command_tokens c ++ after ≡ script_tokens cs → (more : List Command) × (after ≡ script_tokens more)
@@ -173,7 +173,10 @@ fault_after n c front here other h = absurd h
 
 fault_first : (n : ℕ) (t : Lexeme) (ts : List Lexeme) (r : Refusal) → (End ≡ t.token → ⊥) → ((name : CommandName) → Name (Some name) ≡ t.token → ⊥) → r ≡ fault_of t.token t.place → TextFault n (t ∷ ts) r
 fault_first n t ts r no_end no_name e = record {
-  front = []; here = t; rest = ts; begins = refl;
+  front = [];
+  here = t;
+  rest = ts;
+  begins = refl;
   goes_on = ([], End ∷ [], refl);
   room = omega arith;
   fault = fault_is n [] t r e (no_script t.token no_end no_name);
@@ -186,7 +189,10 @@ fault_limit t ts name r e f =
     let goes : GoesOn (t.token ∷ []) = (c ∷ [], rest_tokens c ++ script_tokens [], ap (λ (k : Token). k ∷ (rest_tokens c ++ script_tokens [])) (sym named) ∙ sym (script_parts c [])) in
     let one : names_in (t.token ∷ []) ≡ 1 = rw e refl in
     record {
-      front = []; here = t; rest = ts; begins = refl;
+      front = [];
+      here = t;
+      rest = ts;
+      begins = refl;
       goes_on = ([], End ∷ [], refl);
       room = omega arith;
       fault = subst (IsFault 0 [] t) (sym f) (refl, one, goes);
@@ -201,19 +207,23 @@ never_within name front k stops (c ∷ cs, more, e) =
     let heads : Name (Some name) ≡ Name (Some (name_of c)) = head_is (Name (Some name)) (Name (Some (name_of c))) ((front ++ k ∷ []) ++ more) (rest_tokens c ++ script_tokens cs) f in
     let named : name_of c ≡ name = cc in
     stops c (script_tokens cs) more named
-      (sym (tail_is (Name (Some name)) (Name (Some (name_of c))) ((front ++ k ∷ []) ++ more) (rest_tokens c ++ script_tokens cs) f) ∙ append_assoc front (k ∷ []) more)
+    (sym (tail_is (Name (Some name)) (Name (Some (name_of c))) ((front ++ k ∷ []) ++ more) (rest_tokens c ++ script_tokens cs) f) ∙ append_assoc front (k ∷ []) more)
 
 -- the fault stands within a command
 fault_within : (n : ℕ) (t : Lexeme) (ts : List Lexeme) (name : CommandName) (r : Refusal) → t.token ≡ Name (Some name) → Faulty (IsNamed name) rest_tokens ts r → TextFault (suc n) (t ∷ ts) r
 fault_within n t ts name r e f =
     let k : Token = Name (Some name) in
     let named : Name (Some (name_of f.some)) ≡ k = ap (λ (m : CommandName). Name (Some m)) f.some_fits in
-    let goes : GoesOn (k ∷ f.front) =
-      (f.some ∷ [], f.more ++ script_tokens [],
-        ap (λ (l : List Token). k ∷ l) (sym (append_assoc f.front f.more (script_tokens [])) ∙ ap (λ (l : List Token). l ++ script_tokens []) f.goes_on)
-        ∙ (ap (λ (m : Token). m ∷ (rest_tokens f.some ++ script_tokens [])) (sym named) ∙ sym (script_parts f.some []))) in
+    let goes : GoesOn (k ∷ f.front) = (
+      f.some ∷ [],
+      f.more ++ script_tokens [],
+      ap (λ (l : List Token). k ∷ l) (sym (append_assoc f.front f.more (script_tokens [])) ∙ ap (λ (l : List Token). l ++ script_tokens []) f.goes_on)
+          ∙ (ap (λ (m : Token). m ∷ (rest_tokens f.some ++ script_tokens [])) (sym named) ∙ sym (script_parts f.some [])),
+    ) in
     record {
-      front = k ∷ f.front; here = f.here; rest = f.rest;
+      front = k ∷ f.front;
+      here = f.here;
+      rest = f.rest;
       begins = (e, f.begins);
       goes_on = goes;
       room = omega (arith, names-append f.front f.more, ap names_in f.goes_on, names-rest f.some);
@@ -245,7 +255,9 @@ script_faults (suc n) (t ∷ ts) r text e =
                 let named : t.token ≡ Name (Some (name_of c)) = found.1 ∙ ap (λ (m : CommandName). Name (Some m)) (sym own.0) in
                 let first : Begins (command_tokens c) (t ∷ ts) step.0.1 = (named, own.1) in
                 record {
-                  front = command_tokens c ++ f.front; here = f.here; rest = f.rest;
+                  front = command_tokens c ++ f.front;
+                  here = f.here;
+                  rest = f.rest;
                   begins = Begins-join (command_tokens c) f.front (t ∷ ts) step.0.1 (f.here ∷ f.rest) first f.begins;
                   goes_on = goes_on_after c f.front f.goes_on;
                   room = omega (arith, names_later c f.front, f.room);

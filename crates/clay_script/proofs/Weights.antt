@@ -29,7 +29,6 @@ weigh-append w [] b = omega arith
 weigh-append w (k ∷ a) b = omega (arith, weigh-append w a b)
 
 module _ (w : Token → ℕ) (light : Light w) where
-
   numbers_light : (zs : List ℤ) → weigh w (flat_map after_comma (map one_number zs)) ≡ 0
   numbers_light [] = refl
   numbers_light (z ∷ zs) = omega (arith, light.comma, light.number z, numbers_light zs)

@@ -1,11 +1,13 @@
 //! Printing a script: one command a line.
 
-ghost use Rattle.std.specs.Prelude.{◌≡◌, ◌++◌, map, codes, OnOk, IfOk};
+ghost use Rattle.std.specs.Prelude.{◌≡◌, ◌++◌, ◌<◌, ◌^◌, unsigned_abs, map, codes, OnOk, IfOk};
 ghost use Rattle.std.specs.List.{flat_map};
 ghost use Rattle.std.specs.Fmt.{signed_decimal};
 ghost use Rattle.clay_script.specs.Names.{letters_of};
 ghost use Rattle.clay_script.specs.Commands.{name_of, arguments_of};
-ghost use Rattle.clay_script.specs.Layout.{behind_comma, comma_joined, vector_text, argument_text, command_text, layout};
+ghost use Rattle.clay_script.specs.Layout.{behind_comma, comma_joined, vector_text, argument_text, command_text, layout, FitArguments, FitCommands};
+ghost use Rattle.clay_script.specs.Grammar.{IsScript};
+ghost use Rattle.row_core.specs.Rows.{AreCoefficients};
 
 use crate::command_names::CommandName;
 use crate::commands::{Command, Script};
@@ -17,7 +19,8 @@ use suite_base::{NoMemory, Text};
 /// The printed text of `script`: one command a line, with `, ` between the arguments and between
 /// the numbers of a vector.
 pub fn print_script(alloc: Global, script: &Script) -> Result<Text, NoMemory>
-    ensures { IfOk result (λ text. text ≡ layout script.now) }
+    ensures layout { IfOk result (λ text. text ≡ layout script.now) }
+    ensures read_back { IfOk result (λ text. IsScript text script.now) }
 {
     let mut text = Text::new(alloc);
     push_commands(&mut text, script.as_slice())?;
@@ -26,7 +29,8 @@ pub fn print_script(alloc: Global, script: &Script) -> Result<Text, NoMemory>
 
 /// Appends the lines of `commands`.
 fn push_commands(text: &mut Text, commands: &[Command]) -> Result<(), NoMemory>
-    ensures { OnOk result (text.new ≡ text.old ++ layout commands.now) }
+    ensures text { OnOk result (text.new ≡ text.old ++ layout commands.now) }
+    ensures fits { OnOk result (FitCommands commands.now) }
 {
     for command in commands {
         push_command(text, command)?;
@@ -36,7 +40,8 @@ fn push_commands(text: &mut Text, commands: &[Command]) -> Result<(), NoMemory>
 
 /// Appends the line of a command.
 fn push_command(text: &mut Text, command: &Command) -> Result<(), NoMemory>
-    ensures { OnOk result (text.new ≡ text.old ++ command_text command.now) }
+    ensures text { OnOk result (text.new ≡ text.old ++ command_text command.now) }
+    ensures fits { OnOk result (FitArguments (arguments_of command.now)) }
 {
     push_arguments(text, command)?;
     text.push_bytes(b");\n")
@@ -44,7 +49,8 @@ fn push_command(text: &mut Text, command: &Command) -> Result<(), NoMemory>
 
 /// Appends the name of a command, `(` and the arguments.
 fn push_arguments(text: &mut Text, command: &Command) -> Result<(), NoMemory>
-    ensures { OnOk result (text.new ≡ text.old ++ (letters_of (name_of command.now) ++ codes "(" ++ comma_joined (map argument_text (arguments_of command.now)))) }
+    ensures text { OnOk result (text.new ≡ text.old ++ (letters_of (name_of command.now) ++ codes "(" ++ comma_joined (map argument_text (arguments_of command.now)))) }
+    ensures fits { OnOk result (FitArguments (arguments_of command.now)) }
 {
     match command {
         Command::Fission(prefix, first) => {
@@ -99,7 +105,8 @@ fn push_arguments(text: &mut Text, command: &Command) -> Result<(), NoMemory>
 
 /// Appends a command's name, `(` and the first argument.
 fn begin(text: &mut Text, name: CommandName, prefix: &Vector) -> Result<(), NoMemory>
-    ensures { OnOk result (text.new ≡ text.old ++ (letters_of name ++ codes "(" ++ vector_text prefix.now)) }
+    ensures text { OnOk result (text.new ≡ text.old ++ (letters_of name ++ codes "(" ++ vector_text prefix.now)) }
+    ensures fits { OnOk result (AreCoefficients prefix.now) }
 {
     text.push_bytes(name.letters())?;
     text.push(b'(')?;
@@ -108,7 +115,8 @@ fn begin(text: &mut Text, name: CommandName, prefix: &Vector) -> Result<(), NoMe
 
 /// Appends `, ` and a number.
 fn push_next_number(text: &mut Text, number: Coeff) -> Result<(), NoMemory>
-    ensures { OnOk result (text.new ≡ text.old ++ behind_comma (signed_decimal number)) }
+    ensures text { OnOk result (text.new ≡ text.old ++ behind_comma (signed_decimal number)) }
+    ensures fits { OnOk result (unsigned_abs number < 2 ^ 127) }
 {
     text.push_bytes(b", ")?;
     text.push_number(number.value())
@@ -116,7 +124,8 @@ fn push_next_number(text: &mut Text, number: Coeff) -> Result<(), NoMemory>
 
 /// Appends `, ` and a vector.
 fn push_next_vector(text: &mut Text, vector: &Vector) -> Result<(), NoMemory>
-    ensures { OnOk result (text.new ≡ text.old ++ behind_comma (vector_text vector.now)) }
+    ensures text { OnOk result (text.new ≡ text.old ++ behind_comma (vector_text vector.now)) }
+    ensures fits { OnOk result (AreCoefficients vector.now) }
 {
     text.push_bytes(b", ")?;
     push_vector(text, vector)
@@ -124,7 +133,8 @@ fn push_next_vector(text: &mut Text, vector: &Vector) -> Result<(), NoMemory>
 
 /// Appends a vector.
 fn push_vector(text: &mut Text, vector: &Vector) -> Result<(), NoMemory>
-    ensures { OnOk result (text.new ≡ text.old ++ vector_text vector.now) }
+    ensures text { OnOk result (text.new ≡ text.old ++ vector_text vector.now) }
+    ensures fits { OnOk result (AreCoefficients vector.now) }
 {
     text.push(b'[')?;
     push_numbers(text, vector.as_slice())?;

@@ -67,7 +67,8 @@ impl Vector {
 
     /// The numbers as a slice.
     pub fn as_slice(&self) -> &[Coeff]
-        ensures { result.now ≡ self.now }
+        ensures answer { result.now ≡ self.now }
+        ensures range { AreCoefficients self.now }
     {
         self.numbers.as_slice()
     }

@@ -9,7 +9,7 @@ use Rattle.clay_script.proofs.readers.read_script.Goals.{After-read_commands}
 whole : (c : After-read_commands) → Answers c.read_commands.result (commands_at 4096 (lexemes_of c.args.bytes.now))
 whole c =
     subst (λ (bytes : List ℕ). Answers c.read_commands.result (commands_at 4096 (lexemes 0 first_place bytes))) c.new-lexer.ensures.rest
-      (subst (λ at. Answers c.read_commands.result (commands_at 4096 (lexemes 0 at c.new-lexer.result.rest.now))) c.new-lexer.ensures.place c.read_commands.ensures)
+    (subst (λ at. Answers c.read_commands.result (commands_at 4096 (lexemes 0 at c.new-lexer.result.rest.now))) c.new-lexer.ensures.place c.read_commands.ensures)
 
 pub returns-clause-found : goal.returns-clause-found
 returns-clause-found c = found_is 4096 (lexemes_of c.args.bytes.now) c.read_commands.result (text_is 0 first_place c.args.bytes.now) (whole c)
