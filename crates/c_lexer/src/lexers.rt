@@ -58,6 +58,14 @@ impl<'a> Lexer<'a> {
         self.at
     }
 
+    /// The number of bytes from the text's first up to the span's end.
+    pub fn len(&self) -> usize
+        ensures value { result ≡ length self.now.text }
+        ensures read { self.now.at ≤ result }
+    {
+        self.text.len()
+    }
+
     /// The place where reading goes on: behind the last token, or the end where none is left.
     pub fn place(&self) -> Place
         ensures { result ≡ place_at self.now.text self.now.at }

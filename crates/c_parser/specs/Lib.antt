@@ -1,0 +1,5 @@
+pub mod Symbols
+pub mod Input
+pub mod Cursor
+pub mod Values
+pub mod Nests

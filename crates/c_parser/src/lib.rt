@@ -1,7 +1,12 @@
 //! Parses the region of a C text into a tree of spans over its source.
 #![tactic(auto)]
 
+mod signs;
+mod stops;
+mod symbols;
+mod tokens;
 mod tree;
+mod values;
 
 pub use tree::{
     And, Arms, Assign, AssignSign, Branch, Compare, Equal, EqualSign, Loop, Node, Or, Piece,
