@@ -66,6 +66,19 @@ impl<'a> Lexer<'a> {
         self.text.len()
     }
 
+    /// The bytes of the text from `from` up to `to`, as far as it has them.
+    pub fn bytes(&self, from: usize, to: usize) -> &'a [u8]
+        ensures { result.now ≡ spec.slice self.now.text from to }
+    {
+        if from >= to || from >= self.text.len() {
+            return &[];
+        }
+        if to >= self.text.len() {
+            return &self.text[from..];
+        }
+        &self.text[from..to]
+    }
+
     /// The place where reading goes on: behind the last token, or the end where none is left.
     pub fn place(&self) -> Place
         ensures { result ≡ place_at self.now.text self.now.at }

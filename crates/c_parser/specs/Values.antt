@@ -126,10 +126,7 @@ module _ (nests : ℕ) (inner : Rules) where
   unfoldable pub arguments : Parser (List Value)
   arguments = do
     is_empty ← eat s.CloseRound
-    if is_empty then pure [] else (do
-      found ← separated s.Comma inner.value
-      expect s.CloseRound
-      pure found)
+    if is_empty then pure [] else (do found ← separated s.Comma inner.value; expect s.CloseRound; pure found)
 
   -- behind a name; its opening bracket comes next
   unfoldable pub call : Piece → Parser Primary
@@ -143,9 +140,7 @@ module _ (nests : ℕ) (inner : Rules) where
   named = do
     name ← take_token
     kind ← peek
-    if same_symbol kind s.OpenRound then call name else (do
-      found ← subscripts
-      pure (pri.Target (roll-Target (record { name = name; subscripts = found }))))
+    if same_symbol kind s.OpenRound then call name else (do found ← subscripts; pure (pri.Target (roll-Target (record { name = name; subscripts = found }))))
 
   -- `max`, `min`, `ceild` and `floord` are names only before `(`
   unfoldable pub operator : Parser Primary
@@ -240,14 +235,7 @@ module _ (nests : ℕ) (inner : Rules) where
   unfoldable pub arms : Parser (Option Arms)
   arms = do
     kind ← peek
-    if same_symbol kind s.Question then (do
-      open_nest nests
-      take_token
-      one ← inner.value
-      expect s.Colon
-      other ← inner.value
-      pure (Some (roll-Arms (record { yes = one; no = other }))))
-    else pure None
+    if same_symbol kind s.Question then (do open_nest nests; take_token; one ← inner.value; expect s.Colon; other ← inner.value; pure (Some (roll-Arms (record { yes = one; no = other })))) else pure None
 
   unfoldable pub value : Parser Value
   value = do

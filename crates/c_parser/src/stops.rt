@@ -1,5 +1,8 @@
 //! Why parsing stops.
 
+ghost use Rattle.std.specs.Prelude.{◌≡◌};
+ghost use Rattle.c_parser.specs.Stops.{fail_of};
+
 use std::alloc::AllocError;
 use suite_base::{Fail, NoMemory, Refusal};
 
@@ -11,7 +14,10 @@ pub enum Stop {
 }
 
 impl Stop {
-    pub fn fail(self) -> Fail {
+    /// The same as an answer of the suite.
+    pub fn fail(self) -> Fail
+        ensures { result ≡ fail_of self }
+    {
         match self {
             Stop::Memory => Fail::Memory,
             Stop::Refused(refusal) => Fail::Refused(refusal),

@@ -1,8 +1,9 @@
 //! A cursor over the tokens of a region, which cuts each as it is reached.
 
-ghost use Rattle.std.specs.Prelude.{◌≡◌, ◌≤◌, length};
-ghost use Rattle.c_lexer.specs.Readings.{Reading};
+ghost use Rattle.std.specs.Prelude.{◌≡◌, ◌<◌, ◌≤◌, length, OnOk};
+ghost use Rattle.c_lexer.specs.Readings.{Reading, slice};
 ghost use Rattle.c_parser.specs.Input as spec;
+ghost use Rattle.c_parser.specs.Statements as statement;
 ghost use Rattle.c_parser.specs.Input.{Reads};
 
 use crate::stops::Stop;
@@ -156,12 +157,50 @@ impl<'a> Tokens<'a> {
     /// The next token opens a nest, of which so many may still be opened.
     #[tactic(auto, unfolding(crate::specs::Input::open_nest))]
     pub fn open_nest(&self, nests: usize) -> Result<(), Stop>
-        ensures { Reads (spec.open_nest nests self.now) result self.now }
+        ensures reads { Reads (spec.open_nest nests self.now) result self.now }
+        ensures some { OnOk result (0 < nests) }
     {
         if nests == 0 {
             Err(Stop::Refused(Refusal::TooDeep(self.place)))
         } else {
             Ok(())
         }
+    }
+
+    /// The next token opens a loop, of which so many may still be opened.
+    #[tactic(auto, unfolding(crate::specs::Statements::open_loop))]
+    pub fn open_loop(&self, loops: usize) -> Result<(), Stop>
+        ensures reads { Reads (statement.open_loop loops self.now) result self.now }
+        ensures some { OnOk result (0 < loops) }
+    {
+        if loops == 0 {
+            Err(Stop::Refused(Refusal::TooDeep(self.place)))
+        } else {
+            Ok(())
+        }
+    }
+
+    /// Takes a name, which has to be the one that stands at this piece.
+    #[tactic(auto, unfolding(crate::specs::Statements::same_name))]
+    pub fn same_name(&mut self, name: Piece) -> Result<(), Stop>
+        ensures { Reads (statement.same_name name self.old) result self.new }
+    {
+        let piece = Piece {
+            from: self.from,
+            to: self.lexer.at(),
+        };
+        if self.sees(Symbol::Name) && self.bytes(name) == self.bytes(piece) {
+            self.take();
+            Ok(())
+        } else {
+            Err(self.refuse())
+        }
+    }
+
+    /// The bytes of a piece.
+    fn bytes(&self, piece: Piece) -> &'a [u8]
+        ensures { result.now ≡ slice self.now.text piece.from piece.to }
+    {
+        self.lexer.bytes(piece.from, piece.to)
     }
 }

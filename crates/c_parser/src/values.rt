@@ -3,7 +3,7 @@
 //! What stands in one nest more is reached through the function that parses an operand with its signs,
 //! which is a parameter, so that each production is proved by itself.
 
-ghost use Rattle.std.specs.Prelude.{◌≡◌, ◌<◌, []};
+ghost use Rattle.std.specs.Prelude.{◌≡◌, ◌<◌, ◌^◌, []};
 ghost use Rattle.c_parser.specs.Input.{Reads};
 ghost use Rattle.c_parser.specs.Values as spec;
 ghost use Rattle.c_parser.specs.Nests.{Nests};
@@ -215,6 +215,17 @@ impl<F: Fn(Global, &mut Tokens<'_>, usize, List<UnarySign>) -> Result<Unary, Sto
     }
 
     #[cycle(value)]
+    fn arm(&self, tokens: &mut Tokens<'_>, nests: usize) -> Result<Value, Stop>
+        requires some { 0 < nests }
+        requires room { nests < self.now.limit }
+        requires nests { Nests self.now.limit (F.pre self.now.unary) (F.post self.now.unary) }
+        ensures { Reads ((spec.below nests).value tokens.old) result tokens.new }
+    {
+        self.value(tokens, nests - 1)
+    }
+
+    #[tactic(auto, unfolding(crate::specs::Values::arms))]
+    #[cycle(value)]
     fn arms(&self, tokens: &mut Tokens<'_>, nests: usize) -> Result<Option<Boxed<Arms>>, Stop>
         requires room { nests < self.now.limit }
         requires nests { Nests self.now.limit (F.pre self.now.unary) (F.post self.now.unary) }
@@ -225,12 +236,13 @@ impl<F: Fn(Global, &mut Tokens<'_>, usize, List<UnarySign>) -> Result<Unary, Sto
         }
         tokens.open_nest(nests)?;
         tokens.take();
-        let yes = self.value(tokens, nests - 1)?;
+        let yes = self.arm(tokens, nests)?;
         tokens.expect(Symbol::Colon)?;
-        let no = self.value(tokens, nests - 1)?;
+        let no = self.arm(tokens, nests)?;
         Ok(Some(Boxed::new(self.alloc, Arms { yes, no })?))
     }
 
+    #[tactic(auto, unfolding(crate::specs::Values::value))]
     #[cycle(value)]
     pub fn value(&self, tokens: &mut Tokens<'_>, nests: usize) -> Result<Value, Stop>
         requires room { nests < self.now.limit }
@@ -244,7 +256,6 @@ impl<F: Fn(Global, &mut Tokens<'_>, usize, List<UnarySign>) -> Result<Unary, Sto
     }
 
     /// A value in one nest more.
-    #[tactic(auto, unfolding(crate::specs::Values::below))]
     fn inner_value(&self, tokens: &mut Tokens<'_>) -> Result<Value, Stop>
         requires some { 0 < self.now.limit }
         requires nests { Nests self.now.limit (F.pre self.now.unary) (F.post self.now.unary) }
@@ -254,7 +265,6 @@ impl<F: Fn(Global, &mut Tokens<'_>, usize, List<UnarySign>) -> Result<Unary, Sto
     }
 
     /// A sum in one nest more.
-    #[tactic(auto, unfolding(crate::specs::Values::below))]
     fn inner_sum(&self, tokens: &mut Tokens<'_>) -> Result<Sum, Stop>
         requires some { 0 < self.now.limit }
         requires nests { Nests self.now.limit (F.pre self.now.unary) (F.post self.now.unary) }
@@ -320,7 +330,7 @@ impl<F: Fn(Global, &mut Tokens<'_>, usize, List<UnarySign>) -> Result<Unary, Sto
     fn arguments(&self, tokens: &mut Tokens<'_>) -> Result<Items<Value>, Stop>
         requires some { 0 < self.now.limit }
         requires nests { Nests self.now.limit (F.pre self.now.unary) (F.post self.now.unary) }
-        ensures { Reads (spec.arguments (spec.below self.now.limit) tokens.old) result tokens.new }
+        ensures { Reads (spec.arguments self.now.limit (spec.below self.now.limit) tokens.old) result tokens.new }
     {
         if tokens.eat(Symbol::CloseRound) {
             return Ok(Items::new(self.alloc));
@@ -405,6 +415,7 @@ impl<F: Fn(Global, &mut Tokens<'_>, usize, List<UnarySign>) -> Result<Unary, Sto
 }
 
 /// An operand with its signs, behind those that were read, with so many nests to open.
+#[tactic(auto, unfolding(crate::specs::Values::unary))]
 pub fn unary(
     alloc: Global,
     tokens: &mut Tokens<'_>,
@@ -426,4 +437,55 @@ pub fn unary(
     let mut signs = signs;
     signs.push(sign)?;
     unary(alloc, tokens, nests - 1, signs)
+}
+
+/// A value with so many nests to open.
+pub fn value(alloc: Global, tokens: &mut Tokens<'_>, nests: usize) -> Result<Value, Stop>
+    requires { nests < 2 ^ 32 }
+    ensures { Reads (spec.value nests (spec.below nests) tokens.old) result tokens.new }
+{
+    let grammar = Grammar {
+        alloc,
+        limit: nests + 1,
+        unary,
+    };
+    grammar.value(tokens, nests)
+}
+
+/// A value in one nest more.
+pub fn inner_value(alloc: Global, tokens: &mut Tokens<'_>, nests: usize) -> Result<Value, Stop>
+    requires { 0 < nests }
+    ensures { Reads ((spec.below nests).value tokens.old) result tokens.new }
+{
+    let grammar = Grammar {
+        alloc,
+        limit: nests,
+        unary,
+    };
+    grammar.inner_value(tokens)
+}
+
+/// A sum in one nest more.
+pub fn inner_sum(alloc: Global, tokens: &mut Tokens<'_>, nests: usize) -> Result<Sum, Stop>
+    requires { 0 < nests }
+    ensures { Reads ((spec.below nests).sum tokens.old) result tokens.new }
+{
+    let grammar = Grammar {
+        alloc,
+        limit: nests,
+        unary,
+    };
+    grammar.inner_sum(tokens)
+}
+
+/// A name with its subscripts, with so many nests to open.
+pub fn target(alloc: Global, tokens: &mut Tokens<'_>, nests: usize) -> Result<Target, Stop>
+    ensures { Reads (spec.target nests (spec.below nests) tokens.old) result tokens.new }
+{
+    let grammar = Grammar {
+        alloc,
+        limit: nests,
+        unary,
+    };
+    grammar.target(tokens)
 }
