@@ -4,6 +4,7 @@
 
 mod accesses;
 mod affines;
+mod copies;
 pub mod laws;
 mod one_loops;
 mod origins;
@@ -12,6 +13,7 @@ mod row_builders;
 mod schedules;
 mod scops;
 mod solved_parts;
+mod solved_tests;
 mod statements;
 
 pub use accesses::{Access, AccessKind};
