@@ -6,5 +6,6 @@ pub mod Memories
 pub mod Floors
 pub mod Stamps
 pub mod RunLaws
+pub mod SolvedForms
 mod LayoutChecks
 mod Checks

@@ -78,7 +78,7 @@ are_opposite (x ∷ a) (y ∷ b) = int_eq x (neg_ℤ y) && are_opposite a b
 -- the constants c and d have d = -c + size - 1
 abbrev pub is_pair : Shape → ℤ → List ℤ → List ℤ → Bool
 is_pair shape size low high =
-    are_opposite (slice_range high 0 (columns shape)) (slice_range low 0 (columns shape))
+    int_le (pos 1) size && are_opposite (slice_range high 0 (columns shape)) (slice_range low 0 (columns shape))
     && int_eq (entry high (columns shape)) ((neg_ℤ (entry low (columns shape)) +ℤ size) +ℤ negsuc 0)
 
 -- a test passes at every number below n

@@ -14,6 +14,7 @@ mod schedules;
 mod scops;
 mod solved_parts;
 mod solved_tests;
+mod solving;
 mod statements;
 
 pub use accesses::{Access, AccessKind};

@@ -1,7 +1,8 @@
 //! Tests on rows: which output or which floor a row gives.
 
 ghost use Rattle.std.specs.Prelude.{◌≡◌, ◌==◌, ◌<◌, ◌≤◌, ◌+◌, ◌+ℤ◌, ◌&&◌, not, pos, negsuc, neg_ℤ, int_lt, length, count_by, MatchOption, unsigned_abs, slice_range};
-ghost use Rattle.std.specs.Ordering.{int_eq};
+ghost use Rattle.std.specs.Prelude.{◌≤ℤ◌};
+ghost use Rattle.std.specs.Bool.{Decides};
 ghost use Rattle.row_core.specs.Rows.{entry};
 ghost use Rattle.relation_core.specs.Systems.{columns, width, row_at, HasLimits};
 ghost use Rattle.scop_core.specs.SolvedForm.{weight, is_equality, outputs_of, local_column, locals_from, is_formed, are_formed, is_output_row, is_local_row, is_low_row, is_high_row, first_row, are_opposite, is_pair, are_equalities};
@@ -124,20 +125,32 @@ fn is_opposite(a: &[Coeff], b: &[Coeff]) -> bool
     true
 }
 
-/// Whether `high` is `-low + size - 1`.
+/// Whether `high` is `-low + size - 1`, for a size of at least 1.
+#[tactic(auto, using(crate::proofs::SolvedForms::int_eq_decides))]
 fn is_remainder(high: Coeff, low: Coeff, size: Coeff) -> bool
-    ensures { result ≡ int_eq high ((neg_ℤ low +ℤ size) +ℤ negsuc 0) }
+    requires { pos 1 ≤ℤ size }
+    ensures { Decides result (high ≡ (neg_ℤ low +ℤ size) +ℤ negsuc 0) }
 {
-    match size.value().checked_sub(low.value()) {
-        None => false,
-        Some(sum) => match sum.checked_sub(1) {
-            None => false,
-            Some(wanted) => high.value() == wanted,
-        },
+    let high = high.value();
+    let low = low.value();
+    let rest = size.value() - 1;
+    if low >= 0 {
+        if high == rest - low {
+            return true;
+        }
+        return false;
     }
+    if high < 0 {
+        return false;
+    }
+    if high + low == rest {
+        return true;
+    }
+    false
 }
 
 /// Whether two rows of this shape are the two rows of one floor of this size.
+#[tactic(auto, using(crate::proofs::SolvedForms::remainder_test))]
 pub fn are_paired(shape: Shape, size: Coeff, low: &[Coeff], high: &[Coeff]) -> bool
     requires limits { HasLimits shape }
     requires low { length low.now ≡ width shape }
@@ -145,5 +158,7 @@ pub fn are_paired(shape: Shape, size: Coeff, low: &[Coeff], high: &[Coeff]) -> b
     ensures { result ≡ is_pair shape size low.now high.now }
 {
     let last = low.len() - 1;
-    is_opposite(&high[0..last], &low[0..last]) && is_remainder(high[last], low[last], size)
+    size.value() >= 1
+        && is_opposite(&high[0..last], &low[0..last])
+        && is_remainder(high[last], low[last], size)
 }
