@@ -7,5 +7,6 @@ pub mod Floors
 pub mod Stamps
 pub mod RunLaws
 pub mod SolvedForms
+pub mod SolvedShapes
 mod LayoutChecks
 mod Checks

@@ -184,8 +184,8 @@ are_equalities (row ∷ rows) = is_equality row.kind && are_equalities rows
 abbrev pub is_access : System → Bool
 is_access part =
     part.shape.locals == 0 && nat_le 1 part.shape.outputs && are_equalities part.rows && are_formed part.shape part.rows
-    && each_below (has_output part) part.shape.outputs && is_constant (value_at part 0)
-    && int_le (pos 1) (value_at part 0).constant
+    && each_below (has_output part) part.shape.outputs
+    && (is_constant (value_at part 0) && int_le (pos 1) (value_at part 0).constant)
 
 -- the values of n outputs from place k on
 abbrev pub values_from : System → ℕ → ℕ → List Affine

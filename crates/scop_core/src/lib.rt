@@ -12,6 +12,7 @@ mod raw_pieces;
 mod row_builders;
 mod schedules;
 mod scops;
+mod solved_forms;
 mod solved_parts;
 mod solved_tests;
 mod solving;

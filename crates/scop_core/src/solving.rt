@@ -1,14 +1,14 @@
-//! Scatterings and accesses in solved form: whether a part is one, and the schedule or access that it is.
+//! The rows of a part in solved form: how many give an output or a floor, and what they give.
 
-ghost use Rattle.std.specs.Prelude.{◌≡◌, ◌==◌, ◌<◌, ◌≤◌, ◌+◌, ◌-◌, ◌*◌, ◌/◌, ◌%◌, pos, length, count_by, MatchOption, IfOk, IfSome};
+ghost use Rattle.std.specs.Prelude.{◌≡◌, ◌==◌, ◌<◌, ◌≤◌, ◌+◌, ◌-◌, ◌*◌, ◌/◌, ◌%◌, pos, length, count_by, true, MatchOption, IfOk, IfSome, neg_ℤ, unsigned_abs, ◌^◌};
 ghost use Rattle.row_core.specs.Rows.{entry};
 ghost use Rattle.relation_core.specs.Systems.{columns, width, row_at, HasLimits};
-ghost use Rattle.scop_core.specs.SolvedForm.{is_output_row, is_low_row, is_high_row, is_formed, are_formed, are_equalities, first_row, output_row, low_row_of, high_row_of, value_at, floor_at, affine_of, cleared, has_output, has_floor, has_beta, is_constant, is_scattering, is_access, each_below, levels_from, betas_from, floors_from, values_from, schedule_of, access_of};
+ghost use Rattle.scop_core.specs.SolvedForm.{is_output_row, is_low_row, is_high_row, are_formed, are_equalities, output_row, low_row_of, high_row_of, value_at, floor_at, affine_of, cleared, has_floor, local_column};
+ghost use Rattle.scop_core.specs.SolvedRows.{HasSizes, PairFits};
 
-use crate::accesses::{Access, AccessKind};
 use crate::affines::Affine;
 use crate::row_builders::push_all;
-use crate::schedules::{Floor, Schedule};
+use crate::schedules::Floor;
 use crate::solved_tests::{
     are_paired, are_zero, closes_floor, column_of, gives_floor, gives_output, is_equal,
     is_row_formed,
@@ -16,7 +16,7 @@ use crate::solved_tests::{
 use relation_core::{Part, PartRow, Shape};
 use row_core::{Coeff, DenseRow, negated};
 use std::alloc::Global;
-use suite_base::{List, NoMemory};
+use suite_base::NoMemory;
 
 /// Row `i` of a part, from 0.
 fn row_of(part: &Part, i: usize) -> &PartRow
@@ -30,7 +30,7 @@ fn row_of(part: &Part, i: usize) -> &PartRow
 }
 
 /// Whether every row is formed as the solved form wants it.
-fn all_formed(part: &Part) -> bool
+pub fn all_formed(part: &Part) -> bool
     ensures { result ≡ are_formed part.now.shape part.now.rows }
 {
     let shape = part.shape();
@@ -43,7 +43,7 @@ fn all_formed(part: &Part) -> bool
 }
 
 /// Whether no row is an inequality.
-fn all_equalities(part: &Part) -> bool
+pub fn all_equalities(part: &Part) -> bool
     ensures { result ≡ are_equalities part.now.rows }
 {
     for i in 0..part.row_count() {
@@ -55,7 +55,7 @@ fn all_equalities(part: &Part) -> bool
 }
 
 /// How many rows give the output at place `k`.
-fn output_rows(part: &Part, k: usize) -> usize
+pub fn output_rows(part: &Part, k: usize) -> usize
     requires { k < width part.now.shape }
     ensures { result ≡ count_by (is_output_row k) part.now.rows }
 {
@@ -69,7 +69,7 @@ fn output_rows(part: &Part, k: usize) -> usize
 }
 
 /// How many rows bound the floor of the local at place `k` from below its value.
-fn low_rows(part: &Part, k: usize) -> usize
+pub fn low_rows(part: &Part, k: usize) -> usize
     requires { k < part.now.shape.locals }
     ensures { result ≡ count_by (is_low_row part.now.shape k) part.now.rows }
 {
@@ -84,7 +84,7 @@ fn low_rows(part: &Part, k: usize) -> usize
 }
 
 /// How many rows are counterparts of these.
-fn high_rows(part: &Part, k: usize) -> usize
+pub fn high_rows(part: &Part, k: usize) -> usize
     requires { k < part.now.shape.locals }
     ensures { result ≡ count_by (is_high_row part.now.shape k) part.now.rows }
 {
@@ -113,9 +113,9 @@ fn find_output(part: &Part, k: usize) -> Option<&PartRow>
 }
 
 /// The first row that bounds the floor of the local at place `k` from below its value.
-fn find_low(part: &Part, k: usize) -> Option<&PartRow>
+pub fn find_low(part: &Part, k: usize) -> Option<&PartRow>
     requires { k < part.now.shape.locals }
-    ensures { IfSome result (λ row. (row.now ≡ low_row_of part.now k) × (length row.now.entries ≡ width part.now.shape)) }
+    ensures { MatchOption result (count_by (is_low_row part.now.shape k) part.now.rows ≡ 0) (λ row. (row.now ≡ low_row_of part.now k) × (length row.now.entries ≡ width part.now.shape)) }
 {
     let shape = part.shape();
     for i in 0..part.row_count() {
@@ -128,9 +128,9 @@ fn find_low(part: &Part, k: usize) -> Option<&PartRow>
 }
 
 /// The first counterpart of such a row.
-fn find_high(part: &Part, k: usize) -> Option<&PartRow>
+pub fn find_high(part: &Part, k: usize) -> Option<&PartRow>
     requires { k < part.now.shape.locals }
-    ensures { IfSome result (λ row. (row.now ≡ high_row_of part.now k) × (length row.now.entries ≡ width part.now.shape)) }
+    ensures { MatchOption result (count_by (is_high_row part.now.shape k) part.now.rows ≡ 0) (λ row. (row.now ≡ high_row_of part.now k) × (length row.now.entries ≡ width part.now.shape)) }
 {
     let shape = part.shape();
     for i in 0..part.row_count() {
@@ -146,7 +146,8 @@ fn find_high(part: &Part, k: usize) -> Option<&PartRow>
 fn affine_from(alloc: Global, shape: Shape, row: &[Coeff]) -> Result<Affine, NoMemory>
     requires limits { HasLimits shape }
     requires wide { length row.now ≡ width shape }
-    ensures { IfOk result (λ value. value ≡ affine_of shape row.now) }
+    ensures value { IfOk result (λ value. value ≡ affine_of shape row.now) }
+    ensures sizes { IfOk result (HasSizes shape.inputs shape.locals shape.parameters) }
 {
     let locals = column_of(shape, 0);
     let parameters = column_of(shape, shape.locals);
@@ -161,9 +162,10 @@ fn affine_from(alloc: Global, shape: Shape, row: &[Coeff]) -> Result<Affine, NoM
 }
 
 /// The value of the output at place `k`, where some row gives it.
-fn value_of(alloc: Global, part: &Part, k: usize) -> Result<Affine, NoMemory>
+pub fn value_of(alloc: Global, part: &Part, k: usize) -> Result<Affine, NoMemory>
     requires { k < part.now.shape.outputs }
-    ensures { IfOk result (λ value. value ≡ value_at part.now k) }
+    ensures value { IfOk result (λ value. value ≡ value_at part.now k) }
+    ensures sizes { IfOk result (HasSizes part.now.shape.inputs part.now.shape.locals part.now.shape.parameters) }
 {
     match find_output(part, k) {
         None => Err(NoMemory),
@@ -189,19 +191,75 @@ fn without(alloc: Global, row: &[Coeff], k: usize) -> Result<DenseRow, NoMemory>
     Ok(made)
 }
 
-/// The floor of the local at place `k`, where some rows give it.
-fn floor_of(alloc: Global, part: &Part, k: usize) -> Result<Floor, NoMemory>
-    requires { k < part.now.shape.locals }
-    ensures { IfOk result (λ floor. floor ≡ floor_at part.now k) }
+/// The form of the floor of the local at place `k`, whose lower row is `row`.
+fn form_of(alloc: Global, part: &Part, k: usize, row: &PartRow) -> Result<Affine, NoMemory>
+    requires place { k < part.now.shape.locals }
+    requires wide { length row.now.entries ≡ width part.now.shape }
+    ensures value { IfOk result (λ value. value ≡ affine_of part.now.shape (cleared row.now.entries (local_column part.now.shape k))) }
+    ensures sizes { IfOk result (HasSizes part.now.shape.inputs part.now.shape.locals part.now.shape.parameters) }
 {
-    let column = column_of(part.shape(), k);
-    match find_low(part, k) {
-        None => Err(NoMemory),
-        Some(row) => {
-            let size = row.entries.get(column).negated();
-            let form = without(alloc, row.entries.as_slice(), column)?;
-            let value = affine_from(alloc, part.shape(), form.as_slice())?;
-            Ok(Floor { value, size })
-        }
+    let shape = part.shape();
+    let form = without(alloc, row.entries.as_slice(), column_of(shape, k))?;
+    affine_from(alloc, shape, form.as_slice())
+}
+
+/// The size of that floor.
+fn size_of_floor(part: &Part, k: usize, row: &PartRow) -> Coeff
+    requires place { k < part.now.shape.locals }
+    requires wide { length row.now.entries ≡ width part.now.shape }
+    ensures value { result ≡ neg_ℤ (entry row.now.entries (local_column part.now.shape k)) }
+    ensures range { unsigned_abs result < 2 ^ 127 }
+{
+    let size = row.entries.get(column_of(part.shape(), k)).negated();
+    let _range = size.value();
+    size
+}
+
+/// The constant of a row of `part`.
+fn constant_of(part: &Part, row: &PartRow) -> Coeff
+    requires { length row.now.entries ≡ width part.now.shape }
+    ensures value { result ≡ entry row.now.entries (columns part.now.shape) }
+    ensures range { unsigned_abs result < 2 ^ 127 }
+{
+    let constant = row.entries.get(part.width() - 1);
+    let _range = constant.value();
+    constant
+}
+
+/// The floor of the local at place `k`, which these two rows give.
+fn floor_of_rows(
+    alloc: Global,
+    part: &Part,
+    k: usize,
+    low: &PartRow,
+    high: &PartRow,
+) -> Result<Floor, NoMemory>
+    requires place { k < part.now.shape.locals }
+    requires given { has_floor part.now k ≡ true }
+    requires low { low.now ≡ low_row_of part.now k }
+    requires low_wide { length low.now.entries ≡ width part.now.shape }
+    requires high { high.now ≡ high_row_of part.now k }
+    requires high_wide { length high.now.entries ≡ width part.now.shape }
+    ensures value { IfOk result (λ floor. floor ≡ floor_at part.now k) }
+    ensures sizes { IfOk result (λ floor. HasSizes part.now.shape.inputs part.now.shape.locals part.now.shape.parameters floor.value) }
+    ensures pair { IfOk result (λ floor. PairFits k floor) }
+{
+    let size = size_of_floor(part, k, low);
+    let _constant = constant_of(part, high);
+    let value = form_of(alloc, part, k, low)?;
+    Ok(Floor { value, size })
+}
+
+/// The floor of the local at place `k`, which is given by two rows.
+pub fn floor_of(alloc: Global, part: &Part, k: usize) -> Result<Floor, NoMemory>
+    requires place { k < part.now.shape.locals }
+    requires given { has_floor part.now k ≡ true }
+    ensures value { IfOk result (λ floor. floor ≡ floor_at part.now k) }
+    ensures sizes { IfOk result (λ floor. HasSizes part.now.shape.inputs part.now.shape.locals part.now.shape.parameters floor.value) }
+    ensures pair { IfOk result (λ floor. PairFits k floor) }
+{
+    match (find_low(part, k), find_high(part, k)) {
+        (Some(low), Some(high)) => floor_of_rows(alloc, part, k, low, high),
+        _ => Err(NoMemory),
     }
 }
