@@ -10,6 +10,9 @@ use Rattle.suite_base.specs.declared.refusals.Which.TheVariants.{Statements, Ite
 use Rattle.suite_base.specs.Refusals.{number_of, name_of}
 use Rattle.suite_cli.specs.declared.outcomes.Outcome.{Outcome}
 use Rattle.suite_cli.specs.declared.outcomes.Outcome.TheVariants.{Done, Refused, Usage, ReadFault, WriteFault, Memory}
+use Rattle.suite_cli.specs.declared.messages.Head.{Head}
+use Rattle.suite_cli.specs.declared.messages.Fields.{Fields}
+use Rattle.suite_cli.specs.declared.messages.Fields.TheVariants.{NoFields, One, Two, Counted}
 
 -- what a number counts, in lower-case letters
 abbrev pub where_name : Where → List ℕ
@@ -94,3 +97,14 @@ status_of Usage = 2
 status_of ReadFault = 3
 status_of WriteFault = 4
 status_of Memory = 5
+
+-- what the fields of a refusal are printed as
+abbrev pub fields_text : Fields → List ℕ
+fields_text NoFields = codes "\n"
+fields_text (One n) = one_field n
+fields_text (Two a b) = two_fields a b
+fields_text (Counted name n) = counted_field name.now n
+
+-- a line that begins with these words of a refusal
+abbrev pub line_with : Head → List ℕ → List ℕ
+line_with head fields = codes "suite: refused " ++ (head.file.now ++ (codes " " ++ (head.number.now ++ (codes " " ++ (head.name.now ++ fields)))))

@@ -6,25 +6,26 @@ ghost use Rattle.suite_base.specs.Outside.{HasFault, Wrote, WrotePart};
 ghost use Rattle.suite_base.specs.Refusals.{name_of, number_of};
 ghost use Rattle.suite_cli.specs.Messages as spec;
 
+use crate::outcomes::Outcome;
 use itoa::Buffer;
 use suite_base::{Failed, Refusal, Sink, Where, Which, write_all, write_pieces};
 
 /// The fields of a refusal, as they are printed.
 #[derive(Clone, Copy, Debug)]
 enum Fields {
-    None,
+    NoFields,
     One(u32),
     Two(u32, u32),
     Counted(&'static str, u32),
 }
 
 /// The fields of `refusal`: a place is its line and its column.
-fn fields(refusal: &Refusal) -> Fields
+fn printed_fields(refusal: &Refusal) -> Fields
     ensures { spec.fields_text result ≡ spec.fields_of refusal.now }
 {
     match refusal {
-        Refusal::TooLong => Fields::None,
-        Refusal::NoRegion => Fields::None,
+        Refusal::TooLong => Fields::NoFields,
+        Refusal::NoRegion => Fields::NoFields,
         Refusal::OpenRegion(n) => Fields::One(*n),
         Refusal::SecondRegion(n) => Fields::One(*n),
         Refusal::BadToken(place) => Fields::Two(place.line, place.column),
@@ -51,7 +52,7 @@ fn fields(refusal: &Refusal) -> Fields
         Refusal::NotClanForm(n) => Fields::One(*n),
         Refusal::NotRecoverable(n) => Fields::One(*n),
         Refusal::BadCertificate(n) => Fields::One(*n),
-        Refusal::OutsideFirstPath => Fields::None,
+        Refusal::OutsideFirstPath => Fields::NoFields,
     }
 }
 
@@ -84,4 +85,141 @@ fn which_name(which: &Which) -> &'static str
         Which::Commands => "commands",
         Which::Systems => "systems",
     }
+}
+
+/// Writes the message of `outcome`; at `Done` there is none. A failed write changes nothing else.
+pub fn report<E: Sink>(outcome: &Outcome, err: &mut E) -> Result<(), Failed>
+    ensures ok { OnOk result (Wrote (E.written err.old) (spec.message outcome.now) (E.written err.new)) }
+    ensures part { OnErr result (WrotePart (E.written err.old) (spec.message outcome.now) (E.written err.new)) }
+    ensures cause { OnErr result (HasFault (E.faults err.old) (E.faults err.new)) }
+    ensures grows { E.faults err.old ≤ E.faults err.new }
+{
+    match outcome {
+        Outcome::Done => write_all(err, b""),
+        Outcome::Refused { file, refusal } => report_refusal(*file, refusal, err),
+        Outcome::Usage => write_all(err, b"suite: usage\n"),
+        Outcome::ReadFault => write_all(err, b"suite: read fault\n"),
+        Outcome::WriteFault => write_all(err, b"suite: write fault\n"),
+        Outcome::Memory => write_all(err, b"suite: want of memory\n"),
+    }
+}
+
+/// Writes the line of a refusal of `file`.
+fn report_refusal<E: Sink>(file: u8, refusal: &Refusal, err: &mut E) -> Result<(), Failed>
+    ensures ok { OnOk result (Wrote (E.written err.old) (spec.refusal_line file refusal.now) (E.written err.new)) }
+    ensures part { OnErr result (WrotePart (E.written err.old) (spec.refusal_line file refusal.now) (E.written err.new)) }
+    ensures cause { OnErr result (HasFault (E.faults err.old) (E.faults err.new)) }
+    ensures grows { E.faults err.old ≤ E.faults err.new }
+{
+    let mut file_digits = Buffer::new();
+    let mut number_digits = Buffer::new();
+    let head = Head {
+        file: file_digits.format(file).as_bytes(),
+        number: number_digits.format(refusal.number()).as_bytes(),
+        name: refusal.name().as_bytes(),
+    };
+    match printed_fields(refusal) {
+        Fields::NoFields => report_plain(&head, err),
+        Fields::One(n) => report_one(&head, n, err),
+        Fields::Two(a, b) => report_two(&head, a, b, err),
+        Fields::Counted(name, n) => report_counted(&head, name, n, err),
+    }
+}
+
+/// What each line of a refusal begins with: the file, the number and the name.
+#[derive(Clone, Copy, Debug)]
+struct Head<'a> {
+    file: &'a [u8],
+    number: &'a [u8],
+    name: &'a [u8],
+}
+
+fn report_plain<E: Sink>(head: &Head<'_>, err: &mut E) -> Result<(), Failed>
+    ensures ok { OnOk result (Wrote (E.written err.old) (spec.line_with head.now (codes "\n")) (E.written err.new)) }
+    ensures part { OnErr result (WrotePart (E.written err.old) (spec.line_with head.now (codes "\n")) (E.written err.new)) }
+    ensures cause { OnErr result (HasFault (E.faults err.old) (E.faults err.new)) }
+    ensures grows { E.faults err.old ≤ E.faults err.new }
+{
+    let pieces: [&[u8]; 7] = [
+        b"suite: refused ",
+        head.file,
+        b" ",
+        head.number,
+        b" ",
+        head.name,
+        b"\n",
+    ];
+    write_pieces(err, &pieces)
+}
+
+fn report_one<E: Sink>(head: &Head<'_>, n: u32, err: &mut E) -> Result<(), Failed>
+    ensures ok { OnOk result (Wrote (E.written err.old) (spec.line_with head.now (spec.one_field n)) (E.written err.new)) }
+    ensures part { OnErr result (WrotePart (E.written err.old) (spec.line_with head.now (spec.one_field n)) (E.written err.new)) }
+    ensures cause { OnErr result (HasFault (E.faults err.old) (E.faults err.new)) }
+    ensures grows { E.faults err.old ≤ E.faults err.new }
+{
+    let mut n_digits = Buffer::new();
+    let n = n_digits.format(n).as_bytes();
+    let pieces: [&[u8]; 9] = [
+        b"suite: refused ",
+        head.file,
+        b" ",
+        head.number,
+        b" ",
+        head.name,
+        b" ",
+        n,
+        b"\n",
+    ];
+    write_pieces(err, &pieces)
+}
+
+fn report_two<E: Sink>(head: &Head<'_>, a: u32, b: u32, err: &mut E) -> Result<(), Failed>
+    ensures ok { OnOk result (Wrote (E.written err.old) (spec.line_with head.now (spec.two_fields a b)) (E.written err.new)) }
+    ensures part { OnErr result (WrotePart (E.written err.old) (spec.line_with head.now (spec.two_fields a b)) (E.written err.new)) }
+    ensures cause { OnErr result (HasFault (E.faults err.old) (E.faults err.new)) }
+    ensures grows { E.faults err.old ≤ E.faults err.new }
+{
+    let mut a_digits = Buffer::new();
+    let mut b_digits = Buffer::new();
+    let a = a_digits.format(a).as_bytes();
+    let b = b_digits.format(b).as_bytes();
+    let pieces: [&[u8]; 11] = [
+        b"suite: refused ",
+        head.file,
+        b" ",
+        head.number,
+        b" ",
+        head.name,
+        b" ",
+        a,
+        b" ",
+        b,
+        b"\n",
+    ];
+    write_pieces(err, &pieces)
+}
+
+fn report_counted<E: Sink>(head: &Head<'_>, name: &str, n: u32, err: &mut E) -> Result<(), Failed>
+    ensures ok { OnOk result (Wrote (E.written err.old) (spec.line_with head.now (spec.counted_field name.now n)) (E.written err.new)) }
+    ensures part { OnErr result (WrotePart (E.written err.old) (spec.line_with head.now (spec.counted_field name.now n)) (E.written err.new)) }
+    ensures cause { OnErr result (HasFault (E.faults err.old) (E.faults err.new)) }
+    ensures grows { E.faults err.old ≤ E.faults err.new }
+{
+    let mut n_digits = Buffer::new();
+    let n = n_digits.format(n).as_bytes();
+    let pieces: [&[u8]; 11] = [
+        b"suite: refused ",
+        head.file,
+        b" ",
+        head.number,
+        b" ",
+        head.name,
+        b" ",
+        name.as_bytes(),
+        b" ",
+        n,
+        b"\n",
+    ];
+    write_pieces(err, &pieces)
 }
