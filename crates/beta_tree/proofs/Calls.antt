@@ -22,7 +22,7 @@ nil_of_append : (Q : List ℕ) (p : ℕ) → is_nil (Q ++ p ∷ []) ≡ false
 nil_of_append [] p = refl
 nil_of_append (q ∷ Q) p = refl
 
-loop_is : (Q : List ℕ) (p : ℕ) (V : List (List ℕ)) → no_statement (Q ++ p ∷ []) V ≡ false → is_leaf (Q ++ p ∷ []) V ≡ false → is_loop (Q ++ p ∷ []) V ≡ true
+pub loop_is : (Q : List ℕ) (p : ℕ) (V : List (List ℕ)) → no_statement (Q ++ p ∷ []) V ≡ false → is_leaf (Q ++ p ∷ []) V ≡ false → is_loop (Q ++ p ∷ []) V ≡ true
 loop_is Q p V some leafless = rw (nil_of_append Q p, some, leafless) refl
 
 -- an answer that is a tree
@@ -31,7 +31,7 @@ pub record Done (answer : Result (List (List ℕ)) BetaFail) (W : List (List ℕ
   pub tree : IsTree W
   pub fit : AllFit W
 
-fission_at : (Q : List ℕ) (p c : ℕ) (V : List (List ℕ)) → IsTree V → no_statement (Q ++ p ∷ []) V ≡ false → is_leaf (Q ++ p ∷ []) V ≡ false → 0 < c → c < children_of (Q ++ p ∷ []) V → Done (fission_answer (Q ++ p ∷ []) c V) (map (below Q (split_loop p c)) V)
+pub fission_at : (Q : List ℕ) (p c : ℕ) (V : List (List ℕ)) → IsTree V → no_statement (Q ++ p ∷ []) V ≡ false → is_leaf (Q ++ p ∷ []) V ≡ false → 0 < c → c < children_of (Q ++ p ∷ []) V → Done (fission_answer (Q ++ p ∷ []) c V) (map (below Q (split_loop p c)) V)
 fission_at Q p c V t some leafless first within =
     let loop = loop_is Q p V some leafless in
     let tree = fission_tree Q p c V t loop first within in
@@ -59,7 +59,7 @@ next_fits Q P p V t is some =
 pub children_fit : (P : List ℕ) (V : List (List ℕ)) → IsTree V → children_of P V < 2 ^ 32
 children_fit P V t = let b = children_few P V in let c = t.few in omega arith
 
-fuse_at : (Q : List ℕ) (p : ℕ) (V : List (List ℕ)) → IsTree V → no_statement (Q ++ p ∷ []) V ≡ false → no_statement (Q ++ (p + 1) ∷ []) V ≡ false → is_leaf (Q ++ p ∷ []) V ≡ false → is_leaf (Q ++ (p + 1) ∷ []) V ≡ false → Done (fuse_answer (Q ++ p ∷ []) V) (map (below Q (join_loops p (children_of (Q ++ p ∷ []) V))) V)
+pub fuse_at : (Q : List ℕ) (p : ℕ) (V : List (List ℕ)) → IsTree V → no_statement (Q ++ p ∷ []) V ≡ false → no_statement (Q ++ (p + 1) ∷ []) V ≡ false → is_leaf (Q ++ p ∷ []) V ≡ false → is_leaf (Q ++ (p + 1) ∷ []) V ≡ false → Done (fuse_answer (Q ++ p ∷ []) V) (map (below Q (join_loops p (children_of (Q ++ p ∷ []) V))) V)
 fuse_at Q p V t some next leafless next_leafless =
     let loop = loop_is Q p V some leafless in
     let next_loop = loop_is Q (p + 1) V next next_leafless in
@@ -97,7 +97,7 @@ level_done P k V t low longer some =
 pub nil_no_leaf : (V : List (List ℕ)) → IsTree V → is_leaf [] V ≡ false
 nil_no_leaf V t = elim (bool_tells (is_leaf [] V)) [ inl h ↦ absurd (t.filled (leaf_in [] V h)) | inr f ↦ f ]
 
-leaf_at : (Q : List ℕ) (p : ℕ) (V : List (List ℕ)) → IsTree V → length V + 1 < 2 ^ 32 → no_statement (Q ++ p ∷ []) V ≡ false → is_leaf (Q ++ p ∷ []) V ≡ true → Done (leaf_answer (Q ++ p ∷ []) V) (flat_map (leaf_split (Q ++ p ∷ [])) V)
+pub leaf_at : (Q : List ℕ) (p : ℕ) (V : List (List ℕ)) → IsTree V → length V + 1 < 2 ^ 32 → no_statement (Q ++ p ∷ []) V ≡ false → is_leaf (Q ++ p ∷ []) V ≡ true → Done (leaf_answer (Q ++ p ∷ []) V) (flat_map (leaf_split (Q ++ p ∷ [])) V)
 leaf_at Q p V t few some leaf =
     let tree = leaf_tree Q p V t few (leaf_in (Q ++ p ∷ []) V leaf) in
     record {

@@ -2,6 +2,7 @@
 use Rattle.std.proofs.Common.{◌≡◌, ℕ, pos, negsuc, List, [], ◌∷◌, Ok, Err, refl}
 use Rattle.beta_tree.specs.declared.refusals.BetaFail.TheVariants.{NoBeta, NotALoop, BadArgument}
 use Rattle.beta_tree.specs.Vectors.{dense_of, children_of}
+use Rattle.beta_tree.specs.Laws.{inverse_of}
 use Rattle.beta_tree.specs.Answers.{fission_answer, fuse_answer, reorder_answer, level_answer, leaf_answer}
 
 -- a loop of two statements, and one statement after it
@@ -55,3 +56,6 @@ dense_of_sparse = refl
 
 children_of_all : children_of [] parted ≡ 3
 children_of_all = refl
+
+inverse_of_an_order : inverse_of (2 ∷ (0 ∷ (1 ∷ []))) ≡ 1 ∷ (2 ∷ (0 ∷ []))
+inverse_of_an_order = refl

@@ -19,7 +19,7 @@ below_or_from q x = elim (bool_tells (ltb q x)) [ inl t ↦ inl (ltb-true q x t)
 abbrev pub Closed : List ℕ → Type 0
 Closed xs = (x y : ℕ) → In x xs → y < x → In y xs
 
-count_of_range : (n : ℕ) (xs : List ℕ) → ((x : ℕ) → x < n → In x xs) → ((x : ℕ) → In x xs → x < n) → distinct_count eqb xs ≡ n
+pub count_of_range : (n : ℕ) (xs : List ℕ) → ((x : ℕ) → x < n → In x xs) → ((x : ℕ) → In x xs → x < n) → distinct_count eqb xs ≡ n
 count_of_range n xs all only =
     let low : n ≤ distinct_count eqb xs = le-length_from_below (unique_keys eqb xs) n (λ q h. member_of_unique eqb eqb-true same_yes q xs ∙ member_from_In eqb eqb-true same_yes q xs (all q h)) in
     let high : distinct_count eqb xs ≤ n = length-le_from_distinct_below (unique_keys eqb xs) n (unique_distinct eqb eqb-true same_yes xs) (λ q h. only q (In_from_member eqb eqb-true same_yes q xs (sym (member_of_unique eqb eqb-true same_yes q xs) ∙ h))) in

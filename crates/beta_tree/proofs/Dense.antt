@@ -17,10 +17,10 @@ use Rattle.beta_tree.proofs.Grafts.{free_map}
 
 -- tests of integers
 
-eq_right : (x y : ℤ) → int_eq x y ≡ true → x ≡ y
+pub eq_right : (x y : ℤ) → int_eq x y ≡ true → x ≡ y
 eq_right x y h = (Decides-int_eq x y).0 h
 
-eq_self : (x : ℤ) → int_eq x x ≡ true
+pub eq_self : (x : ℤ) → int_eq x x ≡ true
 eq_self x = (Decides-int_eq x x).1 refl
 
 eq_no : (x y : ℤ) → int_eq x y ≡ false → x ≢ y
@@ -78,7 +78,7 @@ member_cons q a ks h =
     ] refl h
 
 -- a lesser member has a lesser number
-lesser_strict : (a b : ℤ) (xs : List ℤ) → In a xs → a <ℤ b → lesser a xs < lesser b xs
+pub lesser_strict : (a b : ℤ) (xs : List ℤ) → In a xs → a <ℤ b → lesser a xs < lesser b xs
 lesser_strict a b xs i l =
     let within : length (a ∷ below_keys a xs) ≤ length (below_keys b xs) = length-le_from_is_member int_eq_equiv (a ∷ below_keys a xs) (below_keys b xs) (below_distinct a xs) (λ q h.
     elim (member_cons q a (below_keys a xs) h) [
@@ -112,7 +112,7 @@ pred_of b xs k ks e (a, i, top) =
     (a, j, omega arith)
 
 -- the member right below b
-pred_member : (b : ℤ) (xs : List ℤ) → 0 < lesser b xs → (a : ℤ) × In a xs × (lesser a xs + 1 ≡ lesser b xs)
+pub pred_member : (b : ℤ) (xs : List ℤ) → 0 < lesser b xs → (a : ℤ) × In a xs × (lesser a xs + 1 ≡ lesser b xs)
 pred_member b xs some =
     elim (filter (λ y. int_lt y b) xs) as (λ ks. filter (λ y. int_lt y b) xs ≡ ks → (a : ℤ) × In a xs × (lesser a xs + 1 ≡ lesser b xs)) [
       | [] ↦ λ e. absurd (let none : lesser b xs ≡ 0 = ap (λ ks. length (unique_keys int_eq ks)) e in omega arith)

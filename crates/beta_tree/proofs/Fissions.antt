@@ -12,7 +12,7 @@ fission_apart p c u v a =
     (subst (λ z. Apart (join_loops p c (split_loop p c u)) z) (sym (join_split p c v)) (subst (λ z. Apart z v) (sym (join_split p c u)) a))
 
 -- the child of p in the split tree is before c
-split_child_low : (p c z : ℕ) (w v : List ℕ) → split_loop p c v ≡ p ∷ (z ∷ w) → z < c
+pub split_child_low : (p c z : ℕ) (w v : List ℕ) → split_loop p c v ≡ p ∷ (z ∷ w) → z < c
 split_child_low p c z w v e =
     split_kinds p c (λ t. split_loop p c t ≡ p ∷ (z ∷ w) → z < c)
     (λ h. absurd (cc))

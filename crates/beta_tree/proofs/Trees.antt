@@ -116,15 +116,15 @@ tree_below Q f V t some nil apart dense = record {
 
 -- a prefix below another
 
-one_more : (Q : List ℕ) (p : ℕ) (w : List ℕ) → (Q ++ p ∷ []) ++ w ≡ Q ++ p ∷ w
+pub one_more : (Q : List ℕ) (p : ℕ) (w : List ℕ) → (Q ++ p ∷ []) ++ w ≡ Q ++ p ∷ w
 one_more Q p w = append_assoc Q (p ∷ []) w
 
-under_front : (Q : List ℕ) (p : ℕ) (V : List (List ℕ)) → no_statement (Q ++ p ∷ []) V ≡ false → (w : List ℕ) × In (p ∷ w) (under Q V)
+pub under_front : (Q : List ℕ) (p : ℕ) (V : List (List ℕ)) → no_statement (Q ++ p ∷ []) V ≡ false → (w : List ℕ) × In (p ∷ w) (under Q V)
 under_front Q p V h =
     let (w, i) = some_under (Q ++ p ∷ []) V h in
     (w, In-under Q (p ∷ w) V (subst (λ z. In z V) (one_more Q p w) (from_In-under (Q ++ p ∷ []) w V i)))
 
-leafless_front : (Q : List ℕ) (p : ℕ) (V : List (List ℕ)) → is_loop (Q ++ p ∷ []) V ≡ true → In (p ∷ []) (under Q V) → ⊥
+pub leafless_front : (Q : List ℕ) (p : ℕ) (V : List (List ℕ)) → is_loop (Q ++ p ∷ []) V ≡ true → In (p ∷ []) (under Q V) → ⊥
 leafless_front Q p V h i = no_leaf (Q ++ p ∷ []) V (loop_leafless (Q ++ p ∷ []) V h) (from_In-under Q (p ∷ []) V i)
 
 -- fission
@@ -161,25 +161,26 @@ join_nil p n [] e = refl
 join_nil p n (x ∷ w) e =
     elim (x == p + 1) as (λ t. (if t then appended_children p n w else moved_down p x ∷ w) ≡ [] → x ∷ w ≡ []) [ true ↦ λ k. absurd (appended_nil p n w k) | false ↦ λ k. absurd (cc) ] e
 
+pub joins_at : (Q : List ℕ) (p : ℕ) (V : List (List ℕ)) → IsTree V → is_loop (Q ++ p ∷ []) V ≡ true → is_loop (Q ++ (p + 1) ∷ []) V ≡ true → JoinsAt p (children_of (Q ++ p ∷ []) V) (under Q V)
+joins_at Q p V t loop next = record {
+  leafless = leafless_front Q p V loop;
+  next_leafless = leafless_front Q (p + 1) V next;
+  next = under_front Q (p + 1) V (loop_some (Q ++ (p + 1) ∷ []) V next);
+  below_n = λ y u k. child_below (Q ++ p ∷ []) y u V t.dense (subst (λ z. In z V) (sym (one_more Q p (y ∷ u))) (from_In-under Q (p ∷ (y ∷ u)) V k));
+  child = λ y l. let (u, k) = child_exists (Q ++ p ∷ []) y V t.dense l in (u, In-under Q (p ∷ (y ∷ u)) V (subst (λ z. In z V) (one_more Q p (y ∷ u)) k));
+}
+
 pub fuse_tree : (Q : List ℕ) (p : ℕ) (V : List (List ℕ)) → IsTree V → is_loop (Q ++ p ∷ []) V ≡ true → is_loop (Q ++ (p + 1) ∷ []) V ≡ true → IsTree (map (below Q (join_loops p (children_of (Q ++ p ∷ []) V))) V)
 fuse_tree Q p V t loop next =
     let (w, i) = under_front Q p V (loop_some (Q ++ p ∷ []) V loop) in
-    let (w2, i2) = under_front Q (p + 1) V (loop_some (Q ++ (p + 1) ∷ []) V next) in
-    let n : ℕ = children_of (Q ++ p ∷ []) V in
-    let joins : JoinsAt p (children_of (Q ++ p ∷ []) V) (under Q V) = record {
-      leafless = leafless_front Q p V loop;
-      next_leafless = leafless_front Q (p + 1) V next;
-      next = (w2, i2);
-      below_n = λ y u k. child_below (Q ++ p ∷ []) y u V t.dense (subst (λ z. In z V) (sym (one_more Q p (y ∷ u))) (from_In-under Q (p ∷ (y ∷ u)) V k));
-      child = λ y l. let (u, k) = child_exists (Q ++ p ∷ []) y V t.dense l in (u, In-under Q (p ∷ (y ∷ u)) V (subst (λ z. In z V) (one_more Q p (y ∷ u)) k));
-    } in
+    let joins = joins_at Q p V t loop next in
     tree_below Q (join_loops p (children_of (Q ++ p ∷ []) V)) V t (p ∷ w, i) (join_nil p (children_of (Q ++ p ∷ []) V))
     (fuse_apart p (children_of (Q ++ p ∷ []) V) (under Q V) joins)
     (fuse_dense p (children_of (Q ++ p ∷ []) V) (under Q V) joins (dense_under Q V t.dense))
 
 -- reorder
 
-renumbered_nil : (order u : List ℕ) → renumbered order u ≡ [] → u ≡ []
+pub renumbered_nil : (order u : List ℕ) → renumbered order u ≡ [] → u ≡ []
 renumbered_nil order [] e = refl
 renumbered_nil order (x ∷ u) e = absurd (cc)
 

@@ -2,3 +2,4 @@
 pub mod Vectors
 pub mod Edits
 pub mod Answers
+pub mod Laws

@@ -4,12 +4,17 @@
 mod betas;
 mod copies;
 mod edits;
+mod laws;
 mod looks;
 mod numbering;
 mod rebuilds;
 mod refusals;
 
 pub use betas::Betas;
+pub use laws::{
+    answers_are_trees, dense_stays, fission_keeps_order, fuse_keeps_order, fuse_undoes_fission,
+    leaf_keeps_order, level_keeps_order, reorder_undoes_reorder,
+};
 pub use refusals::BetaFail;
 
 #[cfg(test)]

@@ -1,4 +1,4 @@
-use Rattle.std.proofs.Common.{◌≡◌, ℤ, pos, negsuc, List, [], ◌∷◌, rules}
+use Rattle.std.proofs.Common.{◌≡◌, rules}
 use Rattle.beta_tree.proofs.Samples.{sample, sample_free}
 use Rattle.beta_tree.proofs.tests.loop_and_statement.Goals as goal
 
