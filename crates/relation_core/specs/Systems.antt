@@ -1,6 +1,7 @@
 -- Systems of rows as data: a shape and a list of rows of that width.
-use Rattle.std.specs.Prelude.{ℤ, ℕ, ◌+◌, ◌<◌, ◌≤◌, ◌≡◌, List, [], ◌∷◌, ◌++◌, length}
+use Rattle.std.specs.Prelude.{ℤ, ℕ, ◌+◌, ◌<◌, ◌≤◌, ◌≡◌, List, [], ◌∷◌, ◌++◌, length, map, pos, insert}
 use Rattle.std.proofs.Common.{get_or}
+use Rattle.row_core.specs.Rows.{AreCoefficients}
 use Rattle.relation_core.specs.declared.shapes.Shape.{Shape}
 use Rattle.relation_core.specs.declared.part_rows.PartRow.{PartRow}
 use Rattle.relation_core.specs.declared.part_rows.RowKind.{RowKind}
@@ -34,14 +35,11 @@ no_row = record { kind = Equal; entries = [] }
 abbrev pub row_at : List PartRow → ℕ → PartRow
 row_at rows k = get_or rows k no_row
 
--- every row has n entries
-abbrev pub HaveWidth : ℕ → List PartRow → Type 0
-HaveWidth n rows = (k : ℕ) → k < length rows → length (row_at rows k).entries ≡ n
-
--- every part keeps its limits, and each of its rows is as wide as its shape
+-- every part keeps its limits; each row is as wide as its shape, and its entries are coefficients
 pub record IsWellFormed (shape : Shape) (rows : List PartRow) : Type 0 where
   pub limits : HasLimits shape
-  pub widths : HaveWidth (width shape) rows
+  pub widths : (k : ℕ) → k < length rows → length (row_at rows k).entries ≡ width shape
+  pub ranges : (k : ℕ) → AreCoefficients (row_at rows k).entries
 
 -- the system without rows
 abbrev pub no_rows : Shape → System
@@ -50,3 +48,22 @@ no_rows shape = record { shape = shape; rows = [] }
 -- the system with one more row
 abbrev pub with_row : System → RowKind → List ℤ → System
 with_row part kind entries = record part { rows = part.rows ++ record { kind = kind; entries = entries } ∷ [] }
+
+-- the rows of one system, then those of another
+abbrev pub conjoined : System → System → System
+conjoined part other = record part { rows = part.rows ++ other.rows }
+
+-- a row with a zero before place k
+abbrev pub with_zero : ℕ → PartRow → PartRow
+with_zero k row = record row { entries = insert row.entries k (pos 0) }
+
+-- the system with one more local, at this place among the locals; no row asks anything of it
+abbrev pub with_local : System → ℕ → System
+with_local part at = record {
+  shape = record part.shape { locals = part.shape.locals + 1 };
+  rows = map (with_zero (part.shape.outputs + part.shape.inputs + at)) part.rows;
+}
+
+-- every row has at least k entries
+abbrev pub ReachTo : ℕ → List PartRow → Type 0
+ReachTo k rows = (i : ℕ) → i < length rows → k ≤ length (row_at rows i).entries

@@ -2,12 +2,18 @@
 //! locals, and unions of them.
 #![tactic(auto)]
 
+mod layouts;
 mod part_rows;
 mod parts;
 mod relations;
+mod row_lists;
 mod shapes;
 
+pub use layouts::print_part;
 pub use part_rows::{PartRow, RowKind};
 pub use parts::Part;
 pub use relations::Relation;
 pub use shapes::Shape;
+
+#[cfg(test)]
+mod tests;

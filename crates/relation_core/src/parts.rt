@@ -1,21 +1,22 @@
 //! A part: a system of affine rows over outputs, inputs, existential locals and parameters.
 
-ghost use Rattle.std.specs.Prelude.{◌≡◌, ◌<◌, ◌≤◌, [], length, OnOk, OnErr};
+ghost use Rattle.std.specs.Prelude.{◌≡◌, ◌<◌, ◌≤◌, [], length, IfOk, OnOk, OnErr};
 ghost use Rattle.row_core.specs.Rows.{entry};
-ghost use Rattle.relation_core.specs.Systems.{width, HasLimits, row_at, no_rows, with_row};
+ghost use Rattle.relation_core.specs.Systems.{width, HasLimits, IsWellFormed, row_at, no_rows, with_row, conjoined, with_local};
 
 use crate::part_rows::{PartRow, RowKind};
+use crate::row_lists::{copied, copied_with_zero};
 use crate::shapes::Shape;
 use row_core::{Coeff, DenseRow};
 use std::alloc::Global;
 use std::marker::Model;
-use suite_base::{List, NoMemory};
+use suite_base::NoMemory;
 
 /// A system of rows of one shape. Contracts see its shape and its list of rows.
 #[derive(Drop)]
 pub struct Part {
     shape: Shape,
-    rows: List<PartRow>,
+    rows: Vec<PartRow>,
 }
 
 impl Model for Part {
@@ -23,9 +24,9 @@ impl Model for Part {
 
     ghost Value = { System };
 
-    ghost view = { λ part. record { shape = part.shape; rows = part.rows } };
+    ghost view = { λ part. record { shape = part.shape; rows = part.rows.items } };
 
-    ghost invariant = { λ part. IsWellFormed part.shape part.rows };
+    ghost invariant = { λ part. IsWellFormed part.shape part.rows.items };
 }
 
 impl Part {
@@ -36,7 +37,7 @@ impl Part {
     {
         Part {
             shape,
-            rows: List::new(alloc),
+            rows: Vec::new(alloc),
         }
     }
 
@@ -47,8 +48,52 @@ impl Part {
         ensures ok { OnOk result (self.new ≡ with_row self.old kind row.now) }
         ensures err { OnErr result (self.new ≡ self.old) }
     {
-        let entries = DenseRow::from_coeffs(self.rows.allocator(), row)?;
-        self.rows.push(PartRow { kind, entries })
+        let entries = DenseRow::from_coeffs(self.allocator(), row)?;
+        let _in_range = entries.len();
+        self.rows.push(PartRow { kind, entries })?;
+        Ok(())
+    }
+
+    /// Appends the rows of `other`, a part of the same shape. On want of memory the part is as
+    /// before.
+    pub fn conjoin(&mut self, other: &Part) -> Result<(), NoMemory>
+        requires { self.old.shape ≡ other.now.shape }
+        ensures ok { OnOk result (self.new ≡ conjoined self.old other.now) }
+        ensures err { OnErr result (self.new ≡ self.old) }
+    {
+        let mut added = copied(self.allocator(), other.rows.as_slice())?;
+        self.rows.append(&mut added)?;
+        Ok(())
+    }
+
+    /// The part with one more local, whose column is zero and stands before the local `at`, or after
+    /// all locals where `at` is their number. There are fewer than 65,536 locals.
+    pub fn with_column(&self, alloc: Global, at: usize) -> Result<Part, NoMemory>
+        requires room { self.now.shape.locals < 65536 }
+        requires place { at ≤ self.now.shape.locals }
+        ensures { IfOk result (λ part. part ≡ with_local self.now at) }
+    {
+        let column = self.shape.outputs + self.shape.inputs + at;
+        let rows = copied_with_zero(alloc, self.rows.as_slice(), column)?;
+        let shape = Shape {
+            outputs: self.shape.outputs,
+            inputs: self.shape.inputs,
+            locals: self.shape.locals + 1,
+            parameters: self.shape.parameters,
+        };
+        Ok(Part { shape, rows })
+    }
+
+    /// The allocator that the part keeps.
+    pub fn allocator(&self) -> Global {
+        *self.rows.allocator()
+    }
+
+    /// The rows in order.
+    pub fn rows(&self) -> &[PartRow]
+        ensures { result.now ≡ self.now.rows }
+    {
+        self.rows.as_slice()
     }
 
     /// How many columns of each sort the part has.
@@ -68,7 +113,8 @@ impl Part {
 
     /// The number of rows.
     pub fn row_count(&self) -> usize
-        ensures { result ≡ length self.now.rows }
+        ensures answer { result ≡ length self.now.rows }
+        ensures form { IsWellFormed self.now.shape self.now.rows }
     {
         self.rows.len()
     }

@@ -3,28 +3,17 @@ use Rattle.std.specs.Prelude.{ℤ, pos, negsuc, ◌+ℤ◌, ◌*ℤ◌, neg_ℤ,
 use Rattle.std.proofs.Common.{ap, sym, ◌∙◌, arith}
 use Rattle.std.proofs.lemmas.Int.{ints, by_lt_z}
 use Rattle.std.proofs.Math.Nat.{mul-le-mul_left}
-use borrow.Author.Differences.{up, down, sum_is_lem, product_is, neg_is}
-
-pub mul_comm_z : (a b : ℤ) → a *ℤ b ≡ b *ℤ a
-mul_comm_z a b = omega (arith, ints)
+use borrow.Author.Differences.{up, down, neg_is}
+pub use Rattle.row_core.specs.Linear.{mul_comm_z, mul_add_z, add_mul_z, mul_assoc_z}
 
 pub mul_one_z : (a : ℤ) → a *ℤ pos 1 ≡ a
 mul_one_z a = omega (arith, ints)
-
-pub mul_add_z : (a b c : ℤ) → a *ℤ (b +ℤ c) ≡ (a *ℤ b) +ℤ (a *ℤ c)
-mul_add_z a b c = omega (arith, ints, ap (λ n. up a * n) (sum_is_lem b c), ap (λ n. down a * n) (sum_is_lem b c))
-
-pub add_mul_z : (a b c : ℤ) → (a +ℤ b) *ℤ c ≡ (a *ℤ c) +ℤ (b *ℤ c)
-add_mul_z a b c = omega (arith, ints, mul_comm_z (a +ℤ b) c, mul_comm_z a c, mul_comm_z b c, mul_add_z c a b)
 
 pub neg_mul_z : (a b : ℤ) → neg_ℤ a *ℤ b ≡ neg_ℤ (a *ℤ b)
 neg_mul_z a b = omega (arith, ints, ap (λ n. n * up b) (neg_is a).0, ap (λ n. n * down b) (neg_is a).0, ap (λ n. n * up b) (neg_is a).1, ap (λ n. n * down b) (neg_is a).1)
 
 pub mul_neg_z : (a b : ℤ) → a *ℤ neg_ℤ b ≡ neg_ℤ (a *ℤ b)
 mul_neg_z a b = omega (arith, ints, mul_comm_z a (neg_ℤ b), neg_mul_z b a, mul_comm_z a b)
-
-pub mul_assoc_z : (a b c : ℤ) → (a *ℤ b) *ℤ c ≡ a *ℤ (b *ℤ c)
-mul_assoc_z a b c = omega (arith, ints, ap (λ n. n * up c) (product_is a b).0, ap (λ n. n * down c) (product_is a b).0, ap (λ n. n * up c) (product_is a b).1, ap (λ n. n * down c) (product_is a b).1, ap (λ n. up a * n) (product_is b c).0, ap (λ n. down a * n) (product_is b c).0, ap (λ n. up a * n) (product_is b c).1, ap (λ n. down a * n) (product_is b c).1)
 
 pub mul_nonneg_z : (a b : ℤ) → pos 0 ≤ℤ a → pos 0 ≤ℤ b → pos 0 ≤ℤ (a *ℤ b)
 mul_nonneg_z a b g h = grind (arith, ints)

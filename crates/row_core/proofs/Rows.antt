@@ -1,38 +1,12 @@
 -- The value of a row is linear in the row; entries and limits, column by column.
-use Rattle.std.specs.Prelude.{ℤ, pos, ◌+ℤ◌, ◌*ℤ◌, ℕ, zero, suc, ◌^◌, ◌≤◌, ◌<◌, List, [], ◌∷◌, ◌++◌, length, ◌-◌, unsigned_abs, swap, ◌≡◌, refl}
-use Rattle.std.proofs.Common.{ap, inl, inr, subst, ◌∙◌, arith}
-use Rattle.std.proofs.lemmas.Int.{ints}
+use Rattle.std.specs.Prelude.{ℤ, ◌+ℤ◌, ◌*ℤ◌, ◌≡◌, pos, ℕ, zero, suc, ◌^◌, ◌≤◌, ◌<◌, List, [], ◌∷◌, ◌++◌, length, drop, max, ◌+◌, ◌-◌, unsigned_abs, insert, swap}
+use Rattle.std.proofs.Common.{ap, inl, inr, ◌∙◌, subst, arith}
 use Rattle.std.proofs.Math.ListN.{set}
+use Rattle.std.proofs.Math.Seq.{drop-cons}
 use Rattle.std.proofs.lemmas.Bool.{cases_lt}
 use Rattle.std.proofs.lemmas.List.Edits.{swap_is}
-use Rattle.row_core.specs.Rows.{entry, dot, add_rows, scale, combined, pair_weight, combined_weight, IsHeavy, AreCoefficients}
-use Rattle.row_core.proofs.Ring.{mul_add_z, add_mul_z, mul_assoc_z}
-
-pub dot_add : (a b v : List ℤ) → dot (add_rows a b) v ≡ dot a v +ℤ dot b v
-dot_add [] b v = omega (arith, ints)
-dot_add (x ∷ a) [] v = omega (arith, ints)
-dot_add (x ∷ a) (y ∷ b) [] = refl
-dot_add (x ∷ a) (y ∷ b) (z ∷ v) = omega (arith, ints, add_mul_z x y z, dot_add a b v)
-
-pub dot_scale : (p : ℤ) (a v : List ℤ) → dot (scale p a) v ≡ p *ℤ dot a v
-dot_scale p [] v = omega (arith, ints)
-dot_scale p (x ∷ a) [] = omega (arith, ints)
-dot_scale p (x ∷ a) (z ∷ v) = omega (arith, ints, mul_add_z p (x *ℤ z) (dot a v), mul_assoc_z p x z, dot_scale p a v)
-
--- of rows of one length, the combination is the sum of the multiples
-pub combined_is : (p : ℤ) (a : List ℤ) (q : ℤ) (b : List ℤ) → length a ≡ length b → combined p a q b ≡ add_rows (scale p a) (scale q b)
-combined_is p [] q [] e = refl
-combined_is p [] q (y ∷ b) e = absurd (omega arith)
-combined_is p (x ∷ a) q [] e = absurd (omega arith)
-combined_is p (x ∷ a) q (y ∷ b) e =
-    let l : length a ≡ length b = omega arith in
-    ap (λ rest. ((p *ℤ x) +ℤ (q *ℤ y)) ∷ rest) (combined_is p a q b l)
-
--- the value of a combination, at every point
-pub dot_combined : (p : ℤ) (a : List ℤ) (q : ℤ) (b v : List ℤ) → length a ≡ length b
-    → dot (combined p a q b) v ≡ (p *ℤ dot a v) +ℤ (q *ℤ dot b v)
-dot_combined p a q b v e =
-    rw (combined_is p a q b e) (dot_add (scale p a) (scale q b) v ∙ ap (λ n. n +ℤ dot (scale q b) v) (dot_scale p a v) ∙ ap (λ n. (p *ℤ dot a v) +ℤ n) (dot_scale q b v))
+use Rattle.row_core.specs.Rows.{entry, combined, pair_weight, combined_weight, IsHeavy, AreCoefficients}
+pub use Rattle.row_core.specs.Linear.{dot_add, dot_scale, combined_is, dot_combined}
 
 bound_more : (row : List ℤ) (x : ℤ) → ((k : ℕ) → unsigned_abs (entry row k) < 2 ^ 127) → unsigned_abs x < 2 ^ 127
     → (k : ℕ) → unsigned_abs (entry (row ++ x ∷ []) k) < 2 ^ 127
@@ -44,6 +18,19 @@ bound_more (y ∷ row) x f h (suc k) = bound_more row x (λ j. f (suc j)) h k
 -- appending a coefficient keeps all entries in range
 pub coefficients_more : (row : List ℤ) (x : ℤ) → AreCoefficients row → unsigned_abs x < 2 ^ 127 → AreCoefficients (row ++ x ∷ [])
 coefficients_more row x r h = record { bound = bound_more row x r.bound h }
+
+bound_insert : (row : List ℤ) (i : ℕ) (x : ℤ) → ((k : ℕ) → unsigned_abs (entry row k) < 2 ^ 127) → unsigned_abs x < 2 ^ 127
+    → (k : ℕ) → unsigned_abs (entry (insert row i x) k) < 2 ^ 127
+bound_insert row zero x f h zero = h
+bound_insert row zero x f h (suc k) = f k
+bound_insert [] (suc i) x f h zero = h
+bound_insert [] (suc i) x f h (suc k) = f k
+bound_insert (y ∷ row) (suc i) x f h zero = f zero
+bound_insert (y ∷ row) (suc i) x f h (suc k) = bound_insert row i x (λ j. f (suc j)) h k
+
+-- so does inserting one
+pub coefficients_insert : (row : List ℤ) (i : ℕ) (x : ℤ) → AreCoefficients row → unsigned_abs x < 2 ^ 127 → AreCoefficients (insert row i x)
+coefficients_insert row i x r h = record { bound = bound_insert row i x r.bound h }
 
 bound_set : (row : List ℤ) (i : ℕ) (x : ℤ) → ((k : ℕ) → unsigned_abs (entry row k) < 2 ^ 127) → unsigned_abs x < 2 ^ 127
     → (k : ℕ) → unsigned_abs (entry (set row i x) k) < 2 ^ 127
@@ -91,3 +78,21 @@ is_heavy p a q b h =
 
 pub from_heavy : (p : ℤ) (a : List ℤ) (q : ℤ) (b : List ℤ) → IsHeavy p a q b → 2 ^ 127 ≤ combined_weight p a q b
 from_heavy p a q b h = omega (arith, column_below p a q b h.0 h.1 h.2, h.3)
+
+-- column k of a combination, before the columns after it
+next_column : (row : List ℤ) (k : ℕ) → k < length row → drop k row ≡ entry row k ∷ drop (k + 1) row
+next_column row k h =
+    let next : suc k ≡ k + 1 = omega arith in
+    drop-cons row k (pos 0) h ∙ ap (λ j. entry row k ∷ drop j row) next
+
+pub combined_step : (p : ℤ) (a : List ℤ) (q : ℤ) (b : List ℤ) (k : ℕ) → k < length a → k < length b
+    → combined p (drop k a) q (drop k b) ≡ ((p *ℤ entry a k) +ℤ (q *ℤ entry b k)) ∷ combined p (drop (k + 1) a) q (drop (k + 1) b)
+combined_step p a q b k f g =
+    ap (λ r. combined p r q (drop k b)) (next_column a k f)
+    ∙ ap (λ r. combined p (entry a k ∷ drop (k + 1) a) q r) (next_column b k g)
+
+pub weight_step : (p : ℤ) (a : List ℤ) (q : ℤ) (b : List ℤ) (k : ℕ) → k < length a → k < length b
+    → combined_weight p (drop k a) q (drop k b) ≡ max (pair_weight p (entry a k) q (entry b k)) (combined_weight p (drop (k + 1) a) q (drop (k + 1) b))
+weight_step p a q b k f g =
+    ap (λ r. combined_weight p r q (drop k b)) (next_column a k f)
+    ∙ ap (λ r. combined_weight p (entry a k ∷ drop (k + 1) a) q r) (next_column b k g)

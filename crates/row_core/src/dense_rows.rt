@@ -1,6 +1,6 @@
 //! A row of coefficients that keeps every entry, in the value itself where it is short.
 
-ghost use Rattle.std.specs.Prelude.{◌≡◌, ◌<◌, [], ◌∷◌, ◌++◌, length, swap, IfOk, OnOk, OnErr};
+ghost use Rattle.std.specs.Prelude.{◌≡◌, ◌<◌, ◌≤◌, [], ◌∷◌, ◌++◌, length, insert, swap, IfOk, OnOk, OnErr};
 ghost use Rattle.row_core.specs.Rows.{entry, AreCoefficients};
 
 use crate::coeffs::Coeff;
@@ -82,6 +82,18 @@ impl DenseRow {
     {
         let _in_range = entry.value();
         self.coeffs.push(entry)?;
+        Ok(())
+    }
+
+    /// Puts `entry` before place `k`, which is at most the length. On want of memory the row is as
+    /// before.
+    pub fn insert(&mut self, k: usize, entry: Coeff) -> Result<(), NoMemory>
+        requires { k ≤ length self.old }
+        ensures ok { OnOk result (self.new ≡ insert self.old k entry) }
+        ensures err { OnErr result (self.new ≡ self.old) }
+    {
+        let _in_range = entry.value();
+        self.coeffs.insert(k, entry)?;
         Ok(())
     }
 

@@ -1,3 +1,5 @@
 pub mod Lines
+pub mod Outside
 pub mod Numbers
 pub mod Words
+pub mod Refusals

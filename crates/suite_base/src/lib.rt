@@ -2,24 +2,37 @@
 //! text, and the one type of refusals.
 #![tactic(auto)]
 
+mod file_reading;
+mod held_files;
 mod line_cursors;
 mod lists;
 mod memory;
+mod memory_fakes;
 #[cfg(test)]
 mod number_tests;
 mod numbers;
+mod outside;
 mod places;
+mod reading;
 mod refusals;
+mod sure_fakes;
 mod texts;
 mod word_lists;
 mod words;
+mod writing;
 
+pub use file_reading::read_file;
 pub use line_cursors::{Lines, is_blank_byte, trimmed, trimmed_front};
 pub use lists::List;
 pub use memory::NoMemory;
-pub use numbers::{NumberRead, is_digit_byte, read_number};
+pub use memory_fakes::{MemFiles, MemSink, MemSource};
+pub use numbers::{NumberRead, are_all_digits, is_digit_byte, read_number};
+pub use outside::{Failed, Files, Sink, Source};
 pub use places::Place;
+pub use reading::{MAX_INPUT, ReadFail, read_all};
 pub use refusals::{Fail, Refusal, Where, Which};
+pub use sure_fakes::{SureFiles, SureSink, SureSource};
 pub use texts::Text;
 pub use word_lists::WordList;
 pub use words::{content_line, next_word};
+pub use writing::{write_all, write_pieces};

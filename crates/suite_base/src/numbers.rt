@@ -56,7 +56,7 @@ pub fn is_digit_byte(byte: u8) -> bool
 }
 
 /// Whether `digits` are digits, and at least one.
-fn are_all_digits(digits: &[u8]) -> bool
+pub fn are_all_digits(digits: &[u8]) -> bool
     ensures { result ≡ are_digits digits.now }
 {
     if digits.is_empty() {

@@ -1,0 +1,67 @@
+use Rattle.std.proofs.Common.{◌≡◌, true, false, Some, None, Ok, Err, refl}
+use Rattle.std.specs.Prelude.{codes}
+use Rattle.c_lexer.specs.Pragmas.{is_scop_line, is_endscop_line, pragma_in}
+use Rattle.c_lexer.specs.Regions.{region_of}
+use Rattle.c_lexer.specs.Tokens.{gap, token_at}
+use Rattle.c_lexer.specs.declared.tokens.TokenKind.TheVariants.{Integer, Literal, Sign}
+use Rattle.c_lexer.specs.declared.regions.RegionFail.TheVariants.{NoRegion, OpenRegion, SecondRegion}
+use Rattle.c_lexer.specs.declared.pragmas.Pragma.TheVariants.{Scop, Endscop}
+
+plain_line : pragma_in (codes "#pragma scop") ≡ Some Scop
+plain_line = refl
+
+blanks_everywhere : is_scop_line (codes "  # \t pragma   scop \r") ≡ true
+blanks_everywhere = refl
+
+closing_line : pragma_in (codes "#pragma\tendscop") ≡ Some Endscop
+closing_line = refl
+
+blank_wanted : is_scop_line (codes "#pragmascop") ≡ false
+blank_wanted = refl
+
+longer_word : pragma_in (codes "#pragma scops") ≡ None
+longer_word = refl
+
+text_behind : is_endscop_line (codes "#pragma endscop // end") ≡ false
+text_behind = refl
+
+region_of_two_lines : region_of (codes "x\n#pragma scop\na;\nb;\n#pragma endscop\n") ≡ Ok (record { from = 15; to = 21; first = record { line = 3; column = 1 } })
+region_of_two_lines = refl
+
+region_without_lines : region_of (codes "#pragma scop\r\n#pragma endscop") ≡ Ok (record { from = 14; to = 14; first = record { line = 2; column = 1 } })
+region_without_lines = refl
+
+no_region : region_of (codes "#pragma endscop\n") ≡ Err NoRegion
+no_region = refl
+
+open_region : region_of (codes "#pragma endscop\n#pragma scop\n#pragma scop") ≡ Err (OpenRegion 2)
+open_region = refl
+
+second_region : region_of (codes "#pragma scop\n#pragma endscop\n\n#pragma scop\n") ≡ Err (SecondRegion 4)
+second_region = refl
+
+-- what separates: blanks, newlines and both comments; one without end does not
+gap_of_all : gap (codes " \t/*a**/// b\n/**/x") ≡ 17
+gap_of_all = refl
+
+gap_without_end : gap (codes " /* a") ≡ 1
+gap_without_end = refl
+
+-- the longest token
+exponent : token_at (codes "1e+5-2") ≡ Some (Literal, 4)
+exponent = refl
+
+hexadecimal : token_at (codes "0x1e+2;") ≡ Some (Literal, 6)
+hexadecimal = refl
+
+points : token_at (codes "2..3 ") ≡ Some (Literal, 4)
+points = refl
+
+zeros : (token_at (codes "007") ≡ Some (Literal, 3)) × (token_at (codes "0)") ≡ Some (Integer, 1)) × (token_at (codes "10;") ≡ Some (Integer, 2))
+zeros = (refl, refl, refl)
+
+signs : (token_at (codes "+++") ≡ Some (Sign, 2)) × (token_at (codes "<==") ≡ Some (Sign, 2)) × (token_at (codes "-e") ≡ Some (Sign, 1))
+signs = (refl, refl, refl)
+
+none_here : (token_at (codes "&x") ≡ None) × (token_at (codes "/*x") ≡ None) × (token_at (codes ".x") ≡ None) × (token_at (codes "#") ≡ None)
+none_here = (refl, refl, refl, refl)

@@ -1,0 +1,87 @@
+//! The printed layout of a part: a line of six numbers, and a line for each row.
+
+ghost use Rattle.std.specs.Prelude.{◌≡◌, ◌<◌, ◌≤◌, [], ◌∷◌, ◌++◌, pos, length, map, OnOk, OnErr};
+ghost use Rattle.std.specs.List.{flat_map};
+ghost use Rattle.std.specs.Fmt.{decimal, signed_decimal};
+ghost use Rattle.relation_core.specs.Systems.{columns, HasLimits};
+ghost use Rattle.relation_core.specs.Layouts.{spaced, spaced_count, header_line, row_line, part_layout};
+
+use crate::part_rows::{PartRow, RowKind};
+use crate::parts::Part;
+use crate::shapes::Shape;
+use row_core::DenseRow;
+use suite_base::{NoMemory, Text};
+
+/// Appends the numbers of rows, columns, outputs, inputs, locals and parameters on one line, and each
+/// row on a line of its own, as docs/FORMATS.md says. On want of memory the text is as before.
+pub fn print_part(text: &mut Text, part: &Part) -> Result<(), NoMemory>
+    ensures ok { OnOk result (text.new ≡ text.old ++ part_layout part.now) }
+    ensures err { OnErr result (text.new ≡ text.old) }
+{
+    let mut lines = Text::new(part.allocator());
+    push_header(&mut lines, part.shape(), part.row_count())?;
+    push_rows(&mut lines, part.rows())?;
+    text.push_bytes(lines.bytes())
+}
+
+fn push_header(text: &mut Text, shape: Shape, rows: usize) -> Result<(), NoMemory>
+    requires { HasLimits shape }
+    ensures { OnOk result (text.new ≡ text.old ++ header_line rows shape) }
+{
+    let columns = shape.outputs + shape.inputs + shape.locals + shape.parameters;
+    text.push_number(rows as i128)?;
+    let counts = [
+        columns + 2,
+        shape.outputs,
+        shape.inputs,
+        shape.locals,
+        shape.parameters,
+    ];
+    push_counts(text, &counts)?;
+    text.push(b'\n')
+}
+
+fn push_counts(text: &mut Text, counts: &[usize]) -> Result<(), NoMemory>
+    ensures { OnOk result (text.new ≡ text.old ++ flat_map spaced_count counts.now) }
+{
+    for count in counts {
+        push_spaced(text, *count as i128)?;
+    }
+    Ok(())
+}
+
+fn push_rows(text: &mut Text, rows: &[PartRow]) -> Result<(), NoMemory>
+    ensures { OnOk result (text.new ≡ text.old ++ flat_map row_line rows.now) }
+{
+    for row in rows {
+        push_row(text, row)?;
+    }
+    Ok(())
+}
+
+fn push_row(text: &mut Text, row: &PartRow) -> Result<(), NoMemory>
+    ensures { OnOk result (text.new ≡ text.old ++ row_line row.now) }
+{
+    match row.kind {
+        RowKind::Equal => text.push(b'0')?,
+        RowKind::AtLeast => text.push(b'1')?,
+    }
+    push_entries(text, &row.entries)?;
+    text.push(b'\n')
+}
+
+fn push_entries(text: &mut Text, entries: &DenseRow) -> Result<(), NoMemory>
+    ensures { OnOk result (text.new ≡ text.old ++ flat_map spaced entries.now) }
+{
+    for k in 0..entries.len() {
+        push_spaced(text, entries.get(k).value())?;
+    }
+    Ok(())
+}
+
+fn push_spaced(text: &mut Text, number: i128) -> Result<(), NoMemory>
+    ensures { OnOk result (text.new ≡ text.old ++ spaced number) }
+{
+    text.push(b' ')?;
+    text.push_number(number)
+}

@@ -1,0 +1,19 @@
+-- A SCoP as data: what contracts see of a Scop.
+use Rattle.std.specs.Prelude.{ℤ, ℕ, List, [], Option, None, Some}
+use Rattle.relation_core.specs.Systems.{System}
+use Rattle.scop_core.specs.declared.statements.Extension.{Extension}
+use Rattle.scop_core.specs.declared.statements.Statement.{Statement}
+
+-- language, context, names of the parameters and arrays where they are present, statements in the
+-- order of the text, and the global extensions but for the arrays
+pub record ScopData : Type 0 where
+  pub language : List ℕ
+  pub context : System
+  pub parameters : Option (List (List ℕ))
+  pub statements : List Statement
+  pub arrays : Option (List (ℤ × List ℕ))
+  pub extensions : List Extension
+
+-- the arrays; none where they are not present
+abbrev pub arrays_of : ScopData → List (ℤ × List ℕ)
+arrays_of scop = elim scop.arrays [ None ↦ [] | Some arrays ↦ arrays ]

@@ -1,0 +1,93 @@
+//! An affine value of a statement: coefficients of its iterators, floors and parameters, and a constant.
+
+ghost use Rattle.std.specs.Prelude.{◌≡◌, ◌<◌, length, IfOk};
+ghost use Rattle.row_core.specs.Rows.{entry};
+
+use row_core::{Coeff, DenseRow};
+use std::alloc::Global;
+use suite_base::NoMemory;
+
+/// One coefficient for each iterator, each floor and each parameter, and a constant. The affine
+/// value of a subscript has no coefficients of floors.
+#[derive(Drop)]
+pub struct Affine {
+    iterators: DenseRow,
+    floors: DenseRow,
+    parameters: DenseRow,
+    constant: Coeff,
+}
+
+impl Affine {
+    /// The affine value of these coefficients.
+    pub fn new(
+        alloc: Global,
+        iterators: &[Coeff],
+        floors: &[Coeff],
+        parameters: &[Coeff],
+        constant: Coeff,
+    ) -> Result<Affine, NoMemory>
+        ensures iterators { IfOk result (λ value. value.iterators ≡ iterators.now) }
+        ensures floors { IfOk result (λ value. value.floors ≡ floors.now) }
+        ensures parameters { IfOk result (λ value. value.parameters ≡ parameters.now) }
+        ensures constant { IfOk result (λ value. value.constant ≡ constant) }
+    {
+        Ok(Affine {
+            iterators: DenseRow::from_coeffs(alloc, iterators)?,
+            floors: DenseRow::from_coeffs(alloc, floors)?,
+            parameters: DenseRow::from_coeffs(alloc, parameters)?,
+            constant,
+        })
+    }
+
+    /// The coefficient of iterator `k`, from 0, which is below their number.
+    pub fn iterator(&self, k: usize) -> Coeff
+        requires { k < length self.now.iterators }
+        ensures { result ≡ entry self.now.iterators k }
+    {
+        self.iterators.get(k)
+    }
+
+    /// The coefficient of floor `k`, from 0, which is below their number.
+    pub fn floor(&self, k: usize) -> Coeff
+        requires { k < length self.now.floors }
+        ensures { result ≡ entry self.now.floors k }
+    {
+        self.floors.get(k)
+    }
+
+    /// The coefficient of parameter `k`, from 0, which is below their number.
+    pub fn parameter(&self, k: usize) -> Coeff
+        requires { k < length self.now.parameters }
+        ensures { result ≡ entry self.now.parameters k }
+    {
+        self.parameters.get(k)
+    }
+
+    /// The coefficients of the iterators.
+    pub(crate) fn iterators(&self) -> &[Coeff]
+        ensures { result.now ≡ self.now.iterators }
+    {
+        self.iterators.as_slice()
+    }
+
+    /// The coefficients of the floors.
+    pub(crate) fn floors(&self) -> &[Coeff]
+        ensures { result.now ≡ self.now.floors }
+    {
+        self.floors.as_slice()
+    }
+
+    /// The coefficients of the parameters.
+    pub(crate) fn parameters(&self) -> &[Coeff]
+        ensures { result.now ≡ self.now.parameters }
+    {
+        self.parameters.as_slice()
+    }
+
+    /// The constant.
+    pub fn constant(&self) -> Coeff
+        ensures { result ≡ self.now.constant }
+    {
+        self.constant
+    }
+}

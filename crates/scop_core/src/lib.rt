@@ -1,0 +1,23 @@
+//! SCoPs as data: statements with domains, schedules and accesses in solved form, and the pieces that
+//! they are assembled from; and the laws of their runs.
+#![tactic(auto)]
+
+mod accesses;
+mod affines;
+pub mod laws;
+mod one_loops;
+mod origins;
+mod raw_pieces;
+mod row_builders;
+mod schedules;
+mod scops;
+mod solved_parts;
+mod statements;
+
+pub use accesses::{Access, AccessKind};
+pub use affines::Affine;
+pub use origins::Pieces;
+pub use raw_pieces::{RawStatement, ScopPieces};
+pub use schedules::{Floor, Schedule};
+pub use scops::Scop;
+pub use statements::{Body, Extension, Statement};
