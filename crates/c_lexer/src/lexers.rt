@@ -58,6 +58,27 @@ impl<'a> Lexer<'a> {
         self.at
     }
 
+    /// The number of bytes from the text's first up to the span's end.
+    pub fn len(&self) -> usize
+        ensures value { result ≡ length self.now.text }
+        ensures read { self.now.at ≤ result }
+    {
+        self.text.len()
+    }
+
+    /// The bytes of the text from `from` up to `to`, as far as it has them.
+    pub fn bytes(&self, from: usize, to: usize) -> &'a [u8]
+        ensures { result.now ≡ spec.slice self.now.text from to }
+    {
+        if from >= to || from >= self.text.len() {
+            return &[];
+        }
+        if to >= self.text.len() {
+            return &self.text[from..];
+        }
+        &self.text[from..to]
+    }
+
     /// The place where reading goes on: behind the last token, or the end where none is left.
     pub fn place(&self) -> Place
         ensures { result ≡ place_at self.now.text self.now.at }

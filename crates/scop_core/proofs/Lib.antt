@@ -6,5 +6,7 @@ pub mod Memories
 pub mod Floors
 pub mod Stamps
 pub mod RunLaws
+pub mod SolvedForms
+pub mod SolvedShapes
 mod LayoutChecks
 mod Checks

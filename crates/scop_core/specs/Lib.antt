@@ -8,3 +8,4 @@ pub mod Sequences
 pub mod Memory
 pub mod Meaning
 pub mod Theorems
+pub mod SolvedForm

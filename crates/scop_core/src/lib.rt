@@ -4,6 +4,7 @@
 
 mod accesses;
 mod affines;
+mod copies;
 pub mod laws;
 mod one_loops;
 mod origins;
@@ -11,7 +12,10 @@ mod raw_pieces;
 mod row_builders;
 mod schedules;
 mod scops;
+mod solved_forms;
 mod solved_parts;
+mod solved_tests;
+mod solving;
 mod statements;
 
 pub use accesses::{Access, AccessKind};

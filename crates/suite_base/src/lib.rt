@@ -1,5 +1,5 @@
-//! What every crate of the suite stands on: lists and texts that keep their allocator, places in a
-//! text, and the one type of refusals.
+//! What every crate of the suite stands on: lists and texts that keep their allocator, lines, words
+//! and numbers of a text, the one type of refusals, and the outside: sources, sinks and files.
 #![tactic(auto)]
 
 mod file_reading;
@@ -16,6 +16,8 @@ mod places;
 mod reading;
 mod refusals;
 mod sure_fakes;
+#[cfg(test)]
+mod tests;
 mod texts;
 mod word_lists;
 mod words;

@@ -1,6 +1,5 @@
 //! The refusals of the whole suite, with their numbers and names.
 
-ghost use Rattle.std.specs.Prelude.{◌≡◌};
 ghost use Rattle.suite_base.specs.declared.refusals.Fail.TheVariants.{Memory};
 ghost use Rattle.std.specs.Prelude.{◌≡◌};
 ghost use Rattle.suite_base.specs.Refusals as spec;

@@ -1,0 +1,4 @@
+-- Beta vectors as the leaves of a tree, the operations on them, and the laws of the operations.
+pub mod Vectors
+pub mod Edits
+pub mod Answers
