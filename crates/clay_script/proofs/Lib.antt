@@ -7,3 +7,4 @@ pub mod Weights
 pub mod Scripts
 pub mod Answers
 pub mod Printing
+mod Checks

@@ -1,6 +1,6 @@
 //! Scripts read, refused and printed, as tables.
 
-use crate::{MAX_COMMANDS, print_script, read_script};
+use crate::{MAX_COMMANDS, Script, print_script, read_script};
 use std::alloc::Global;
 use std::test::Fail as TestFail;
 use suite_base::{Fail, Place, Refusal, Text, Which};
@@ -29,12 +29,12 @@ fn scripts_are_read_and_printed(rt: HostRuntime) -> Result<(), TestFail> {
         ),
     ];
     for (text, wanted) in &cases {
-        let script = read_script(rt.alloc(), text)
+        let script = script_of(rt.alloc(), text)
             .ok()
             .ok_or("the text is a script")?;
         let printed = print_script(rt.alloc(), &script).ok().ok_or("memory")?;
         assert!(rt; printed.bytes() == *wanted);
-        let again = read_script(rt.alloc(), printed.bytes())
+        let again = script_of(rt.alloc(), printed.bytes())
             .ok()
             .ok_or("the printed text is a script")?;
         assert_eq!(rt; again.len(), script.len());
@@ -109,7 +109,7 @@ fn commands_are_counted(rt: HostRuntime) -> Result<(), TestFail> {
     for _ in 0..MAX_COMMANDS {
         text.push_bytes(b"fuse([0]);\n").ok().ok_or("memory")?;
     }
-    let script = read_script(rt.alloc(), text.bytes())
+    let script = script_of(rt.alloc(), text.bytes())
         .ok()
         .ok_or("the text is a script")?;
     assert_eq!(rt; script.len(), MAX_COMMANDS);
@@ -127,9 +127,17 @@ fn commands_are_counted(rt: HostRuntime) -> Result<(), TestFail> {
     Ok(())
 }
 
+/// Reads a short text.
+fn script_of(alloc: Global, text: &[u8]) -> Result<Script, Fail> {
+    if text.len() > 1_000_000 {
+        return Err(Fail::Memory);
+    }
+    read_script(alloc, text)
+}
+
 /// Why a text is no script.
 fn refusal(alloc: Global, text: &[u8]) -> Option<Fail> {
-    match read_script(alloc, text) {
+    match script_of(alloc, text) {
         Ok(_) => None,
         Err(fail) => Some(fail),
     }

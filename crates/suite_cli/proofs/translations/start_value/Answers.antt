@@ -6,5 +6,5 @@ use Rattle.suite_cli.proofs.translations.start_value.Goals as goal
 
 pub unreachable-requires : goal.unreachable-requires
 unreachable-requires c =
-    let read : c.read_number.result ≡ Value (pos (digits_after 0 c.args.digits.now)) = c.read_number.ensures ∙ short_read c.args.digits.now c.requires in
+    let read : c.read_number.result ≡ Value (pos (digits_after 0 c.args.digits.now)) = c.read_number.ensures.answer ∙ short_read c.args.digits.now c.requires in
     absurd (cc)
