@@ -1,4 +1,4 @@
--- A list of beta vectors is a tree of loops: each vector is a leaf, and each longer list of which it has the beginning is a
+-- A list of beta vectors is a tree of loops: each vector is a leaf, and each of its proper beginnings that is not empty is a
 -- loop round it. The statements keep their order in the list, whatever their places in the tree.
 use Rattle.std.specs.Prelude.{◌≡◌, ◌≢◌, ℕ, ℤ, ◌<◌, ◌^◌, ◌==◌, Bool, true, false, if◌then◌else◌, not, ◌&&◌, ◌⊎◌, Option, Some, None, List, [], ◌∷◌, ◌++◌, length, map, filter, int_lt}
 use Rattle.std.specs.List.{filter_map, list_any}
@@ -26,6 +26,7 @@ heads ((x ∷ v) ∷ V) = x ∷ heads V
 abbrev pub children_of : List ℕ → List (List ℕ) → ℕ
 children_of P V = distinct_count eqb (heads (under P V))
 
+-- a list is empty
 abbrev pub is_nil : {A : Type 0} → List A → Bool
 is_nil [] = true
 is_nil (x ∷ xs) = false
@@ -53,6 +54,7 @@ Apart [] v = ⊥
 Apart (x ∷ u) [] = ⊥
 Apart (x ∷ u) (y ∷ v) = (x ≢ y) ⊎ Apart u v
 
+-- v differs in this sense from each of V
 abbrev pub ApartFromAll : {A : Type 0} → List A → List (List A) → Type 0
 ApartFromAll v [] = Unit {0}
 ApartFromAll v (w ∷ V) = Apart v w × ApartFromAll v V
@@ -103,6 +105,7 @@ abbrev pub Fit : List ℕ → Type 0
 Fit [] = Unit {0}
 Fit (x ∷ v) = (x < 2 ^ 32) × Fit v
 
+-- each entry of each vector fits 32 bits
 abbrev pub AllFit : List (List ℕ) → Type 0
 AllFit [] = Unit {0}
 AllFit (v ∷ V) = Fit v × AllFit V

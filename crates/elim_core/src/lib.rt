@@ -1,6 +1,8 @@
 //! Exact rational emptiness of systems of rows, with a certificate for every empty one.
 #![tactic(auto)]
 
+#[cfg(test)]
+mod decision_tests;
 mod decisions;
 mod division;
 mod orders;

@@ -4,6 +4,8 @@
 
 mod certificates;
 mod checks;
+#[cfg(test)]
+mod tests;
 mod texts;
 
 pub use certificates::Certificate;
