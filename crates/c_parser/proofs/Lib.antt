@@ -1,4 +1,0 @@
-pub mod NumberLemmas
-pub mod Turns
-pub mod ValueLemmas
-pub mod StatementLemmas
