@@ -1,5 +1,5 @@
 -- What reading a text answers is what the grammar says: the script, or the refusal at the first fault.
-use Rattle.std.proofs.Common.{◌≡◌, ℕ, zero, suc, ◌+◌, ◌-◌, ◌≤◌, ◌==◌, take, Bool, true, false, ◌⊎◌, inl, inr, List, [], ◌∷◌, ◌++◌, length, Option, Some, None, Result, Ok, Err, refl, sym, ap, subst, ◌∙◌, append_assoc, arith}
+use Rattle.std.proofs.Common.{◌≡◌, ℕ, zero, suc, ◌-◌, ◌≤◌, ◌==◌, take, true, false, inl, inr, List, [], ◌∷◌, ◌++◌, length, Result, Ok, Err, refl, sym, ap, subst, ◌∙◌, append_assoc, arith}
 use Rattle.std.specs.Prelude.{IfOk, IfErr}
 use Rattle.std.proofs.lemmas.List.{append-nil}
 use Rattle.suite_base.specs.declared.places.Place.{Place}
@@ -10,7 +10,7 @@ use Rattle.suite_base.specs.declared.refusals.Fail.{Fail}
 use Rattle.suite_base.specs.declared.refusals.Fail.TheVariants.{Memory, Refused}
 use Rattle.suite_base.proofs.LineCuts.{bool_tells}
 use Rattle.clay_script.specs.declared.tokens.Token.{Token}
-use Rattle.clay_script.specs.declared.tokens.Token.TheVariants.{Name, Number, TooLarge, OpenRound, CloseRound, OpenSquare, CloseSquare, Comma, Semicolon, Stray, End}
+use Rattle.clay_script.specs.declared.tokens.Token.TheVariants.{End}
 use Rattle.clay_script.specs.declared.tokens.Lexeme.{Lexeme}
 use Rattle.clay_script.specs.declared.commands.Command.{Command}
 use Rattle.clay_script.specs.Lexemes.{is_gap, token_of, token_length, place_after, line_length, lexemes}
@@ -20,7 +20,7 @@ use Rattle.clay_script.specs.Grammar.{script_tokens, tokens_of, GoesOn, names_in
 use Rattle.clay_script.proofs.Lexing.{goes_on, some_length, lexeme_of, lexemes_at}
 use Rattle.clay_script.proofs.Laws.{Begins, IsText}
 use Rattle.clay_script.proofs.Weights.{names-append, names-script, no_large}
-use Rattle.clay_script.proofs.Scripts.{all_read, none_read, read_or_not, same_fault, TextFault, script_sound, script_complete, script_faults}
+use Rattle.clay_script.proofs.Scripts.{all_read, none_read, TextFault, script_sound, script_complete, script_faults}
 
 -- ---- the tokens of a text end with its end
 

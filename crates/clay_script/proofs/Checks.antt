@@ -1,10 +1,9 @@
 -- The definitions on worked texts.
 use Rattle.std.proofs.Common.{◌≡◌, [], ◌∷◌, Some, None, pos, negsuc, refl}
 use Rattle.std.specs.Prelude.{codes}
-use Rattle.suite_base.specs.declared.places.Place.{Place}
-use Rattle.clay_script.specs.declared.tokens.Token.TheVariants.{Name, Number, TooLarge, OpenRound, CloseRound, OpenSquare, CloseSquare, Comma, Semicolon, Stray, End}
+use Rattle.clay_script.specs.declared.tokens.Token.TheVariants.{Name, Number, OpenRound, CloseRound, OpenSquare, CloseSquare, Comma, Semicolon, Stray, End}
 use Rattle.clay_script.specs.declared.command_names.CommandName.TheVariants as name
-use Rattle.clay_script.specs.declared.commands.Command.TheVariants.{Fuse, Shift}
+use Rattle.clay_script.specs.declared.commands.Command.TheVariants.{Fuse, Reorder, Shift}
 use Rattle.clay_script.specs.Lexemes.{lexemes_of}
 use Rattle.clay_script.specs.Grammar.{IsScript, command_tokens, tokens_of}
 use Rattle.clay_script.specs.Layout.{layout}
@@ -23,5 +22,5 @@ command_met = refl
 script_met : IsScript (codes "shift([0, 1], 1, [], -2); # moved") (Shift (pos 0 ∷ pos 1 ∷ []) (pos 1) [] (negsuc 1) ∷ [])
 script_met = refl
 
-layout_met : layout (Shift (pos 0 ∷ pos 1 ∷ []) (pos 1) [] (negsuc 1) ∷ Fuse [] ∷ []) ≡ codes "shift([0, 1], 1, [], -2);\nfuse([]);\n"
+layout_met : layout (Reorder [] [] ∷ Fuse [] ∷ []) ≡ codes "reorder([], []);\nfuse([]);\n"
 layout_met = refl

@@ -1,19 +1,19 @@
 -- The readers of arguments and of commands read these forms of the grammar.
-use Rattle.std.proofs.Common.{◌≡◌, ℕ, Bool, true, false, List, [], ◌∷◌, ◌++◌, map, Option, Some, None, Result, Ok, Err, ℤ, pos, refl, sym, ap, subst, ◌∙◌, append_assoc}
+use Rattle.std.proofs.Common.{◌≡◌, true, false, List, [], ◌∷◌, ◌++◌, map, Result, Ok, Err, ℤ, pos, refl, sym, ap, subst, append_assoc}
 use Rattle.std.specs.List.{flat_map}
 use Rattle.suite_base.specs.declared.refusals.Refusal.{Refusal}
 use Rattle.clay_script.specs.declared.tokens.Token.{Token}
-use Rattle.clay_script.specs.declared.tokens.Token.TheVariants.{Name, Number, TooLarge, OpenRound, CloseRound, OpenSquare, CloseSquare, Comma, Semicolon, Stray, End}
+use Rattle.clay_script.specs.declared.tokens.Token.TheVariants.{OpenRound, CloseRound, Semicolon, End}
 use Rattle.clay_script.specs.declared.tokens.Lexeme.{Lexeme}
 use Rattle.clay_script.specs.declared.command_names.CommandName.{CommandName}
 use Rattle.clay_script.specs.declared.command_names.CommandName.TheVariants as name
 use Rattle.clay_script.specs.declared.commands.Command.{Command}
 use Rattle.clay_script.specs.declared.commands.Command.TheVariants.{Fission, Fuse, Reorder, Interchange, Skew, Shift, Reverse, Stripmine, Tile, Iss}
 use Rattle.clay_script.specs.Commands.{Kind, ANumber, AVector, Argument, OneNumber, OneVector, kinds_of, name_of, prefix_of, more_of, arguments_of, command_of}
-use Rattle.clay_script.specs.Reading.{◌>>=◌, sign_at, vector_at, next_number_at, next_vector_at, more_at, rest_at, arguments_at, command_at}
-use Rattle.clay_script.specs.Grammar.{after_comma, one_number, separated, vector_tokens, argument_tokens}
-use Rattle.clay_script.proofs.Loops.{read_ok, read_err, same_value, same_left, not_both}
-use Rattle.clay_script.proofs.Laws.{Begins, IsText, Faulty, Reads, Joins, Any, IsSign, both, both_reads, reads_same, reads_spelled, behind, behind_reads, before, before_reads}
+use Rattle.clay_script.specs.Reading.{◌>>=◌, sign_at, vector_at, next_number_at, next_vector_at, more_at, arguments_at, command_at}
+use Rattle.clay_script.specs.Grammar.{after_comma, separated, vector_tokens, argument_tokens}
+use Rattle.clay_script.proofs.Loops.{read_ok, same_value, same_left, not_both}
+use Rattle.clay_script.proofs.Laws.{Begins, IsText, Reads, Joins, Any, both_reads, reads_same, reads_spelled, behind, behind_reads, before, before_reads}
 use Rattle.clay_script.proofs.Forms.{next_number_tokens, next_vector_tokens, vector_reads, next_number_reads, next_vector_reads}
 
 -- arguments of these kinds

@@ -1,15 +1,15 @@
 -- The readers of vectors, arguments and commands read these forms of the grammar.
-use Rattle.std.proofs.Common.{◌≡◌, ℕ, zero, suc, ◌+◌, Bool, true, false, ◌⊎◌, inl, inr, List, [], ◌∷◌, ◌++◌, map, length, Option, Some, None, Result, Ok, Err, ℤ, pos, refl, sym, ap, subst, ◌∙◌, append_assoc, arith}
+use Rattle.std.proofs.Common.{◌≡◌, true, false, ◌⊎◌, inl, inr, List, [], ◌∷◌, ◌++◌, map, Result, Ok, Err, ℤ, pos, refl, sym, ap, subst, ◌∙◌}
 use Rattle.std.specs.List.{flat_map}
 use Rattle.suite_base.specs.declared.places.Place.{Place}
 use Rattle.suite_base.specs.declared.refusals.Refusal.{Refusal}
 use Rattle.clay_script.specs.declared.tokens.Token.{Token}
-use Rattle.clay_script.specs.declared.tokens.Token.TheVariants.{Name, Number, TooLarge, OpenRound, CloseRound, OpenSquare, CloseSquare, Comma, Semicolon, Stray, End}
+use Rattle.clay_script.specs.declared.tokens.Token.TheVariants.{Number, OpenSquare, CloseSquare, Comma, End}
 use Rattle.clay_script.specs.declared.tokens.Lexeme.{Lexeme}
-use Rattle.clay_script.specs.Reading.{◌>>=◌, fault_of, number_of, number_at, separator_of, first_number_of, with_number, numbers_at, items_at, vector_at, next_number_at, next_vector_at, ended}
+use Rattle.clay_script.specs.Reading.{fault_of, number_of, number_at, separator_of, first_number_of, with_number, numbers_at, items_at, vector_at, next_number_at, next_vector_at, ended}
 use Rattle.clay_script.specs.Grammar.{after_comma, one_number, separated, vector_tokens}
 use Rattle.clay_script.proofs.Loops.{read_ok, read_err, same_value, same_left, same_refusal, not_both}
-use Rattle.clay_script.proofs.Laws.{Begins, IsText, text_after, Faulty, Reads, Any, bind_ok, bind_err, head_is, tail_is, number_reads, behind_reads}
+use Rattle.clay_script.proofs.Laws.{Begins, IsText, text_after, Faulty, Reads, Any, head_is, tail_is, number_reads, behind_reads}
 
 -- ---- tests of one token
 

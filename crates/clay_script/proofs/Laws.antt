@@ -1,10 +1,9 @@
 -- What it means that a reader reads a form of the grammar, and how readers are put together.
-use Rattle.std.proofs.Common.{◌≡◌, ℕ, zero, suc, ◌+◌, Bool, true, false, cond, ◌⊎◌, inl, inr, List, [], ◌∷◌, ◌++◌, length, Option, Some, None, Result, Ok, Err, ℤ, pos, refl, sym, ap, subst, ◌∙◌, append_assoc, arith}
-use Rattle.std.proofs.lemmas.List.{append-nil}
+use Rattle.std.proofs.Common.{◌≡◌, Bool, true, false, cond, ◌⊎◌, inl, inr, List, [], ◌∷◌, ◌++◌, Result, Ok, Err, ℤ, pos, refl, sym, ap, subst, ◌∙◌, append_assoc}
 use Rattle.suite_base.specs.declared.places.Place.{Place}
 use Rattle.suite_base.specs.declared.refusals.Refusal.{Refusal}
 use Rattle.clay_script.specs.declared.tokens.Token.{Token}
-use Rattle.clay_script.specs.declared.tokens.Token.TheVariants.{Name, Number, TooLarge, OpenRound, CloseRound, OpenSquare, CloseSquare, Comma, Semicolon, Stray, End}
+use Rattle.clay_script.specs.declared.tokens.Token.TheVariants.{Number, OpenRound, CloseRound, OpenSquare, CloseSquare, Comma, Semicolon, End}
 use Rattle.clay_script.specs.declared.tokens.Lexeme.{Lexeme}
 use Rattle.clay_script.specs.Lexemes.{first_place}
 use Rattle.clay_script.specs.Reading.{◌>>=◌, fault_of, same_sign, sign_at, number_of, number_at, ended}

@@ -1,15 +1,15 @@
 -- What the lexer takes is the first token of what is left.
-use Rattle.std.proofs.Common.{◌≡◌, ℕ, zero, suc, ◌+◌, ◌-◌, ◌<◌, ◌≤◌, Bool, true, false, ◌||◌, ◌==◌, ◌⊎◌, inl, inr, List, [], ◌∷◌, take, length, refl, sym, ap, ◌∙◌, arith, cond}
+use Rattle.std.proofs.Common.{◌≡◌, ℕ, suc, ◌-◌, ◌≤◌, Bool, true, false, ◌||◌, ◌==◌, inl, inr, List, [], ◌∷◌, take, length, refl, sym, ap, ◌∙◌, arith, cond}
 use Rattle.std.specs.List.{prefix_len}
 use Rattle.std.proofs.lemmas.List.Sums.{prefix_len-le-length}
 use Rattle.suite_base.specs.declared.places.Place.{Place}
 use Rattle.suite_base.specs.declared.numbers.NumberRead.{NumberRead}
 use Rattle.suite_base.specs.declared.numbers.NumberRead.TheVariants as read
-use Rattle.suite_base.specs.Numbers.{is_digit, number_read}
+use Rattle.suite_base.specs.Numbers.{number_read}
 use Rattle.suite_base.proofs.LineCuts.{bool_tells}
 use Rattle.clay_script.specs.declared.tokens.Token.{Token}
 use Rattle.clay_script.specs.declared.tokens.Lexeme.{Lexeme}
-use Rattle.clay_script.specs.Lexemes.{is_letter, is_gap, begins_number, sign_token, number_token, token_of, token_length, place_after, line_length, lexemes}
+use Rattle.clay_script.specs.Lexemes.{is_letter, is_gap, begins_number, sign_token, number_token, token_of, token_length, place_after, lexemes}
 use Rattle.clay_script.specs.Taking.{left_after, Takes, BeginsToken}
 
 pub prefix_within : (p : ℕ → Bool) (s : List ℕ) → prefix_len p s ≤ length s

@@ -1,5 +1,5 @@
 -- The tokens of a printed script are those of the script.
-use Rattle.std.proofs.Common.{◌≡◌, ℕ, zero, suc, ◌+◌, ◌-◌, ◌<◌, ◌≤◌, ◌^◌, Bool, true, false, cond, ◌||◌, ◌==◌, ◌⊎◌, inl, inr, List, [], ◌∷◌, ◌++◌, map, take, drop, length, Option, Some, None, ℤ, pos, negsuc, unsigned_abs, nat_le, refl, sym, ap, subst, ◌∙◌, append_assoc, arith}
+use Rattle.std.proofs.Common.{◌≡◌, ℕ, zero, suc, ◌-◌, ◌<◌, ◌≤◌, ◌^◌, Bool, true, false, cond, ◌==◌, inl, inr, List, [], ◌∷◌, ◌++◌, map, take, length, Some, ℤ, pos, negsuc, unsigned_abs, nat_le, refl, sym, ap, ◌∙◌, append_assoc, arith}
 use Rattle.std.specs.Prelude.{codes}
 use Rattle.std.specs.List.{flat_map, prefix_len}
 use Rattle.std.specs.Fmt.{decimal, signed_decimal}
@@ -13,14 +13,14 @@ use Rattle.std.proofs.Math.Seq.{take-append_seam}
 use Rattle.std.proofs.lemmas.Bool.{leb-true, eqb-true, and_parts}
 use Rattle.std.proofs.lemmas.Int.{ints}
 use Rattle.clay_script.specs.declared.tokens.Token.{Token}
-use Rattle.clay_script.specs.declared.tokens.Token.TheVariants.{Name, Number, TooLarge, OpenRound, CloseRound, OpenSquare, CloseSquare, Comma, Semicolon, Stray, End}
+use Rattle.clay_script.specs.declared.tokens.Token.TheVariants.{Name, Number, OpenRound, CloseRound, OpenSquare, CloseSquare, Comma, Semicolon, End}
 use Rattle.clay_script.specs.declared.tokens.Lexeme.{Lexeme}
 use Rattle.clay_script.specs.declared.command_names.CommandName.{CommandName}
 use Rattle.clay_script.specs.declared.command_names.CommandName.TheVariants.{Fission, Fuse, Reorder, Interchange, Skew, Shift, Reverse, Stripmine, Tile, Iss}
 use Rattle.clay_script.specs.declared.commands.Command.{Command}
 use Rattle.clay_script.specs.Names.{letters_of}
 use Rattle.clay_script.specs.Commands.{Argument, OneNumber, OneVector, name_of, prefix_of, more_of, arguments_of}
-use Rattle.clay_script.specs.Lexemes.{is_letter, is_gap, begins_number, number_token, token_of, token_length, place_after, line_length, lexemes, lexemes_of, first_place}
+use Rattle.clay_script.specs.Lexemes.{is_letter, is_gap, begins_number, number_token, token_of, token_length, place_after, line_length, lexemes, first_place}
 use Rattle.clay_script.specs.Layout.{behind_comma, comma_joined, vector_text, argument_text, command_text, layout, FitsArgument, FitArguments, FitCommands}
 use Rattle.clay_script.specs.Grammar.{after_comma, one_number, separated, vector_tokens, argument_tokens, command_tokens, script_tokens, tokens_of, IsScript}
 

@@ -1,21 +1,20 @@
 -- Reading a whole text: what it answers and what stands at its first fault.
-use Rattle.std.proofs.Common.{◌≡◌, ℕ, zero, suc, ◌+◌, ◌≤◌, Bool, true, false, ◌⊎◌, inl, inr, List, [], ◌∷◌, ◌++◌, length, Option, Some, None, Result, Ok, Err, refl, sym, ap, subst, ◌∙◌, append_assoc, arith}
-use Rattle.std.proofs.lemmas.List.{append-nil}
+use Rattle.std.proofs.Common.{◌≡◌, ℕ, zero, suc, ◌≤◌, true, false, ◌⊎◌, inl, inr, List, [], ◌∷◌, ◌++◌, length, Option, Some, Result, Ok, Err, refl, sym, ap, subst, ◌∙◌, append_assoc, arith}
 use Rattle.std.specs.List.{flat_map}
 use Rattle.suite_base.specs.declared.places.Place.{Place}
 use Rattle.suite_base.specs.declared.refusals.Refusal.{Refusal}
 use Rattle.suite_base.specs.declared.refusals.Refusal.TheVariants.{BadScript, NumberTooLarge, Limit}
 use Rattle.suite_base.specs.declared.refusals.Which.TheVariants.{Commands}
 use Rattle.clay_script.specs.declared.tokens.Token.{Token}
-use Rattle.clay_script.specs.declared.tokens.Token.TheVariants.{Name, Number, TooLarge, OpenRound, CloseRound, OpenSquare, CloseSquare, Comma, Semicolon, Stray, End}
+use Rattle.clay_script.specs.declared.tokens.Token.TheVariants.{Name, TooLarge, End}
 use Rattle.clay_script.specs.declared.tokens.Lexeme.{Lexeme}
 use Rattle.clay_script.specs.declared.command_names.CommandName.{CommandName}
 use Rattle.clay_script.specs.declared.commands.Command.{Command}
 use Rattle.clay_script.specs.Commands.{name_of}
-use Rattle.clay_script.specs.Reading.{◌>>=◌, fault_of, command_at, commands_at, with_command, head_of, too_many, ended}
-use Rattle.clay_script.specs.Grammar.{command_tokens, script_tokens, tokens_of, GoesOn, names_in, IsFault, FirstFault}
-use Rattle.clay_script.proofs.Loops.{read_ok, read_err, not_both}
-use Rattle.clay_script.proofs.Laws.{Begins, Begins-join, Begins-split, IsText, text_after, Faulty, Reads, bind_ok, bind_err, head_is, tail_is, unique}
+use Rattle.clay_script.specs.Reading.{◌>>=◌, fault_of, command_at, commands_at, with_command, head_of, too_many}
+use Rattle.clay_script.specs.Grammar.{command_tokens, script_tokens, GoesOn, names_in, IsFault}
+use Rattle.clay_script.proofs.Loops.{read_ok}
+use Rattle.clay_script.proofs.Laws.{Begins, Begins-join, Begins-split, IsText, text_after, Faulty, bind_ok, bind_err, head_is, tail_is, unique}
 use Rattle.clay_script.proofs.CommandForms.{IsNamed, rest_tokens, command_reads, some_command, some_named}
 use Rattle.clay_script.proofs.Weights.{names-append, names-rest, names-command}
 

@@ -1,5 +1,5 @@
 -- Commands as names with arguments.
-use Rattle.std.specs.Prelude.{ℕ, List, [], ◌∷◌, ℤ}
+use Rattle.std.specs.Prelude.{List, [], ◌∷◌, ℤ}
 use Rattle.clay_script.specs.declared.command_names.CommandName.{CommandName}
 use Rattle.clay_script.specs.declared.command_names.CommandName.TheVariants as name
 use Rattle.clay_script.specs.declared.commands.Command.{Command}

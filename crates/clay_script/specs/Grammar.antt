@@ -1,17 +1,16 @@
 -- The grammar of scripts: the tokens of each form.
-use Rattle.std.specs.Prelude.{◌≡◌, ℕ, zero, suc, ◌+◌, ◌≤◌, List, [], ◌∷◌, ◌++◌, map, length, Option, Some, None, ℤ}
+use Rattle.std.specs.Prelude.{◌≡◌, ℕ, zero, ◌+◌, ◌≤◌, List, [], ◌∷◌, ◌++◌, map, Some, ℤ}
 use Rattle.std.specs.List.{flat_map}
-use Rattle.suite_base.specs.declared.places.Place.{Place}
 use Rattle.suite_base.specs.declared.refusals.Refusal.{Refusal}
 use Rattle.suite_base.specs.declared.refusals.Refusal.TheVariants.{BadScript, NumberTooLarge, Limit}
 use Rattle.suite_base.specs.declared.refusals.Fail.{Fail}
 use Rattle.suite_base.specs.declared.refusals.Fail.TheVariants.{Memory, Refused}
 use Rattle.suite_base.specs.declared.refusals.Which.TheVariants.{Commands}
 use Rattle.clay_script.specs.declared.tokens.Token.{Token}
-use Rattle.clay_script.specs.declared.tokens.Token.TheVariants.{Name, Number, TooLarge, OpenRound, CloseRound, OpenSquare, CloseSquare, Comma, Semicolon, Stray, End}
+use Rattle.clay_script.specs.declared.tokens.Token.TheVariants.{Name, Number, TooLarge, OpenRound, CloseRound, OpenSquare, CloseSquare, Comma, Semicolon, End}
 use Rattle.clay_script.specs.declared.tokens.Lexeme.{Lexeme}
 use Rattle.clay_script.specs.declared.commands.Command.{Command}
-use Rattle.clay_script.specs.Commands.{Argument, OneNumber, OneVector, name_of, prefix_of, more_of, arguments_of}
+use Rattle.clay_script.specs.Commands.{Argument, OneNumber, OneVector, name_of, arguments_of}
 use Rattle.clay_script.specs.Lexemes.{lexemes_of}
 
 -- a part behind a comma

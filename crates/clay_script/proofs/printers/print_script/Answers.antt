@@ -1,7 +1,5 @@
-use Rattle.std.proofs.Common.{List, ◌≡◌, ◌∙◌, ℕ, ap, subst, sym}
-use Rattle.clay_script.specs.declared.commands.Command.{Command}
-use Rattle.clay_script.specs.Layout.{layout, FitCommands}
-use Rattle.clay_script.specs.Grammar.{IsScript}
+use Rattle.std.proofs.Common.{subst}
+use Rattle.clay_script.specs.Layout.{FitCommands}
 use Rattle.clay_script.proofs.Printing.{printed}
 use Rattle.clay_script.proofs.printers.print_script.Goals as goal
 

@@ -1,7 +1,7 @@
-use Rattle.std.proofs.Common.{◌≡◌, ◌∙◌, ◌<◌, ◌≤◌, length, Some, None, [], sym, ap, arith}
+use Rattle.std.proofs.Common.{◌≡◌, ◌<◌, ◌≤◌, length, Some, None, [], arith}
 use Rattle.std.proofs.lemmas.Result.{err_from_is_err_and}
 use Rattle.clay_script.specs.Lexemes.{lexemes}
-use Rattle.clay_script.specs.Reading.{name_at, commands_at}
+use Rattle.clay_script.specs.Reading.{name_at}
 use Rattle.clay_script.proofs.Loops.{read_ok, script_goes_on, script_ends, script_limit, script_stops, script_stops_in}
 use Rattle.clay_script.proofs.readers.read_commands.Goals as goal
 

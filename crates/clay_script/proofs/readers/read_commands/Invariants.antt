@@ -1,4 +1,4 @@
-use Rattle.std.proofs.Common.{◌≡◌, ◌-◌, ◌≤◌, length}
+use Rattle.std.proofs.Common.{◌≡◌, ◌-◌, length}
 use Rattle.clay_script.specs.Lexemes.{lexemes}
 use Rattle.clay_script.specs.Reading.{with_commands, commands_at}
 use Rattle.clay_script.proofs.readers.read_commands.Given as goal

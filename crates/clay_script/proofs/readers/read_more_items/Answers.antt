@@ -1,7 +1,7 @@
-use Rattle.std.proofs.Common.{◌≡◌, ◌∙◌, true, false, sym, ap}
+use Rattle.std.proofs.Common.{◌≡◌, ◌∙◌, true, false, sym}
 use Rattle.std.proofs.lemmas.Result.{err_from_is_err_and}
 use Rattle.clay_script.specs.Lexemes.{lexemes}
-use Rattle.clay_script.specs.Reading.{Gives, separator_at, number_at, with_front, numbers_at}
+use Rattle.clay_script.specs.Reading.{separator_at}
 use Rattle.clay_script.proofs.Loops.{read_ok, goes_on, ends, stops, stops_at_number}
 use Rattle.clay_script.proofs.readers.read_more_items.Goals as goal
 

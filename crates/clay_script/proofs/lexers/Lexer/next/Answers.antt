@@ -1,6 +1,5 @@
-use Rattle.std.proofs.Common.{◌≡◌, ◌∙◌, sym, ap, subst}
-use Rattle.clay_script.specs.Lexemes.{token_of, token_length, lexemes}
-use Rattle.clay_script.specs.Taking.{Takes}
+use Rattle.std.proofs.Common.{◌∙◌, ap}
+use Rattle.clay_script.specs.Lexemes.{lexemes}
 use Rattle.clay_script.proofs.Lexing.{taken}
 use Rattle.clay_script.proofs.lexers.Lexer.next.Goals as goal
 
