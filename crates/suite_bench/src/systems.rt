@@ -40,7 +40,7 @@ pub fn random_system(alloc: Global, seed: u64) -> Result<Part, NoMemory> {
         } else {
             RowKind::AtLeast
         };
-        push_row(&mut system, kind, number, 4)?;
+        push_row(&mut system, kind, number, 6)?;
     }
     Ok(system)
 }
