@@ -15,8 +15,8 @@ pub unary_goes : (nests : ℕ) (signs more : List UnarySign) (sign : UnarySign) 
 unfolding unary below open_nest
 unary_goes nests signs more sign old new some e f g =
     let deep : (below nests).unary (signs ++ sign ∷ []) (after old) ≡ unary (nests - 1) (below (nests - 1)) (signs ++ sign ∷ []) (after old) =
-      deeper (λ n. (below n).unary (signs ++ sign ∷ []) (after old)) nests some in
+    deeper (λ n. (below n).unary (signs ++ sign ∷ []) (after old)) nests some in
     let mid : unary_by nests (below nests) signs (Some sign) old ≡ unary (nests - 1) (below (nests - 1)) (signs ++ sign ∷ []) (after old) =
-      rw (not_zero nests some) deep in
+    rw (not_zero nests some) deep in
     ap (λ x. unary_by nests (below nests) signs x old) (sym e)
-      ∙ (mid ∙ (ap (λ m. unary (nests - 1) (below (nests - 1)) m (after old)) (sym f) ∙ ap (unary (nests - 1) (below (nests - 1)) more) (sym g)))
+    ∙ (mid ∙ (ap (λ m. unary (nests - 1) (below (nests - 1)) m (after old)) (sym f) ∙ ap (unary (nests - 1) (below (nests - 1)) more) (sym g)))

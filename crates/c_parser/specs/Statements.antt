@@ -1,6 +1,6 @@
 -- Statements: one rule for each production of the grammar. The numbers are those of the nests and of the loops
 -- that may still be opened.
-use Rattle.std.specs.Prelude.{ℕ, zero, suc, Bool, true, false, if◌then◌else◌, ◌&&◌, ◌==◌, nat_lt, List, [], ◌∷◌, ◌++◌, Option, Some, None, Result, Ok, Err}
+use Rattle.std.specs.Prelude.{ℕ, zero, suc, Bool, true, false, if◌then◌else◌, ◌==◌, nat_lt, List, [], ◌∷◌, ◌++◌, Option, Some, None, Result, Ok, Err}
 use Rattle.std.specs.Str.{bytes_eq}
 use Rattle.suite_base.specs.declared.refusals.Refusal.TheVariants.{TooDeep}
 use Rattle.c_lexer.specs.Readings.{Reading, slice}
@@ -23,7 +23,7 @@ use Rattle.c_parser.specs.declared.heads.Head.{Head}
 use Rattle.c_parser.specs.declared.tree.Sum.{Sum}
 use Rattle.c_parser.specs.declared.tree.Value.{Value}
 use Rattle.c_parser.specs.Symbols.{same_symbol}
-use Rattle.c_parser.specs.Input.{Parser, ◌>>=◌, ◌>>◌, ◌<$>◌, pure, refuse, peek, position, take_token, eat, expect, open_nest, here, left, symbol, piece, after}
+use Rattle.c_parser.specs.Input.{Parser, ◌>>=◌, ◌>>◌, ◌<$>◌, pure, refuse, peek, position, take_token, eat, expect, open_nest, here, left, symbol, sees, piece, after}
 use Rattle.c_parser.specs.Values.{Rules, below, value, target, rel_sign}
 
 -- ---- what stands between the rules of values
@@ -37,12 +37,17 @@ assign_sign s.DivideAssign = Some sign.Divide
 assign_sign s.RemainderAssign = Some sign.Remainder
 assign_sign _ = None
 
--- takes a name, which has to be this one
+-- two pieces have the same bytes
 abbrev pub is_name : List ℕ → Piece → Piece → Bool
 is_name text a b = bytes_eq (slice text a.from a.to) (slice text b.from b.to)
 
+-- the next token is the name that stands there
+unfoldable pub sees_name : Piece → Reading → Bool
+sees_name name r = if sees s.Name r then is_name r.text name (piece r) else false
+
+-- takes that name, which has to come next
 unfoldable pub same_name : Piece → Parser (Unit {0})
-same_name name = λ r. if same_symbol (symbol r) s.Name && is_name r.text name (piece r) then Ok (tt, after r) else refuse r
+same_name name = λ r. if sees_name name r then Ok (tt, after r) else refuse r
 
 -- a comparison goes upwards or downwards
 abbrev pub is_upward : Rel → Bool

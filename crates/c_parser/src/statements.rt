@@ -48,6 +48,7 @@ fn begins_statement(symbol: Symbol) -> bool
     }
 }
 
+#[tactic(auto, unfolding(crate::specs::Statements::for_loop))]
 #[cycle(statements)]
 fn for_loop(
     alloc: Global,
@@ -61,7 +62,7 @@ fn for_loop(
     tokens.open_loop(loops)?;
     tokens.take();
     let head = loop_head(alloc, tokens, nests)?;
-    let body = statement(alloc, tokens, nests, loops - 1)?;
+    let body = body(alloc, tokens, nests, loops)?;
     let made = Loop {
         name: head.name,
         start: head.start,
@@ -75,6 +76,7 @@ fn for_loop(
 }
 
 /// A branch opens a nest with its first token.
+#[tactic(auto, unfolding(crate::specs::Statements::branch))]
 #[cycle(statements)]
 fn branch(alloc: Global, tokens: &mut Tokens<'_>, nests: usize, loops: usize) -> Result<Node, Stop>
     requires { nests < 2 ^ 32 }
@@ -84,9 +86,10 @@ fn branch(alloc: Global, tokens: &mut Tokens<'_>, nests: usize, loops: usize) ->
         return Err(tokens.refuse());
     }
     tokens.open_nest(nests)?;
-    statement(alloc, tokens, nests - 1, loops)
+    inner(alloc, tokens, nests, loops)
 }
 
+#[tactic(auto, unfolding(crate::specs::Statements::else_branch))]
 #[cycle(statements)]
 fn else_branch(
     alloc: Global,
@@ -104,6 +107,7 @@ fn else_branch(
     Ok(Some(other))
 }
 
+#[tactic(auto, unfolding(crate::specs::Statements::if_branch))]
 #[cycle(statements)]
 fn if_branch(
     alloc: Global,
@@ -144,12 +148,13 @@ fn block_nodes(
         if tokens.eat(Symbol::CloseCurly) {
             return Ok(nodes);
         }
-        let next = statement(alloc, tokens, nests - 1, loops)?;
+        let next = inner(alloc, tokens, nests, loops)?;
         nodes.push(next)?;
     }
     Err(tokens.refuse())
 }
 
+#[tactic(auto, unfolding(crate::specs::Statements::block))]
 #[cycle(statements)]
 fn block(alloc: Global, tokens: &mut Tokens<'_>, nests: usize, loops: usize) -> Result<Node, Stop>
     requires { nests < 2 ^ 32 }
@@ -159,6 +164,31 @@ fn block(alloc: Global, tokens: &mut Tokens<'_>, nests: usize, loops: usize) -> 
     tokens.take();
     let nodes = block_nodes(alloc, tokens, nests, loops)?;
     Ok(Node::Block(nodes))
+}
+
+/// A statement by its first token.
+#[tactic(auto, unfolding(crate::specs::Statements::statement_rule))]
+#[cycle(statements)]
+fn statement_rule(
+    alloc: Global,
+    tokens: &mut Tokens<'_>,
+    nests: usize,
+    loops: usize,
+) -> Result<Node, Stop>
+    requires { nests < 2 ^ 32 }
+    ensures { Reads (spec.statement_rule nests loops (spec.inner nests loops) (spec.body nests loops) tokens.old) result tokens.new }
+{
+    match tokens.peek() {
+        Symbol::For => for_loop(alloc, tokens, nests, loops),
+        Symbol::If => if_branch(alloc, tokens, nests, loops),
+        Symbol::OpenCurly => block(alloc, tokens, nests, loops),
+        Symbol::Semicolon => {
+            tokens.take();
+            Ok(Node::Empty)
+        }
+        Symbol::Name => Ok(Node::Assign(assign(alloc, tokens, nests)?)),
+        _ => Err(tokens.refuse()),
+    }
 }
 
 /// A statement in which so many nests and loops may still be opened.
@@ -172,17 +202,27 @@ pub fn statement(
     requires { nests < 2 ^ 32 }
     ensures { Reads (spec.statement nests loops tokens.old) result tokens.new }
 {
-    match tokens.peek() {
-        Symbol::For => for_loop(alloc, tokens, nests, loops),
-        Symbol::If => if_branch(alloc, tokens, nests, loops),
-        Symbol::OpenCurly => block(alloc, tokens, nests, loops),
-        Symbol::Semicolon => {
-            tokens.take();
-            Ok(Node::Empty)
-        }
-        Symbol::Name => Ok(Node::Assign(assign(alloc, tokens, nests)?)),
-        _ => Err(tokens.refuse()),
-    }
+    statement_rule(alloc, tokens, nests, loops)
+}
+
+/// A statement in one nest more.
+#[cycle(statements)]
+fn inner(alloc: Global, tokens: &mut Tokens<'_>, nests: usize, loops: usize) -> Result<Node, Stop>
+    requires some { 0 < nests }
+    requires small { nests < 2 ^ 32 }
+    ensures { Reads (spec.inner nests loops tokens.old) result tokens.new }
+{
+    statement(alloc, tokens, nests - 1, loops)
+}
+
+/// A statement in one loop more.
+#[cycle(statements)]
+fn body(alloc: Global, tokens: &mut Tokens<'_>, nests: usize, loops: usize) -> Result<Node, Stop>
+    requires some { 0 < loops }
+    requires small { nests < 2 ^ 32 }
+    ensures { Reads (spec.body nests loops tokens.old) result tokens.new }
+{
+    statement(alloc, tokens, nests, loops - 1)
 }
 
 /// All statements of a region.

@@ -180,16 +180,27 @@ impl<'a> Tokens<'a> {
         }
     }
 
+    /// Whether the next token is the name that stands at this piece.
+    #[tactic(auto, unfolding(crate::specs::Statements::sees_name, crate::specs::Input::piece))]
+    fn sees_name(&self, name: Piece) -> bool
+        ensures { result ≡ statement.sees_name name self.now }
+    {
+        if !self.sees(Symbol::Name) {
+            return false;
+        }
+        let piece = Piece {
+            from: self.from,
+            to: self.lexer.at(),
+        };
+        self.bytes(name) == self.bytes(piece)
+    }
+
     /// Takes a name, which has to be the one that stands at this piece.
     #[tactic(auto, unfolding(crate::specs::Statements::same_name))]
     pub fn same_name(&mut self, name: Piece) -> Result<(), Stop>
         ensures { Reads (statement.same_name name self.old) result self.new }
     {
-        let piece = Piece {
-            from: self.from,
-            to: self.lexer.at(),
-        };
-        if self.sees(Symbol::Name) && self.bytes(name) == self.bytes(piece) {
+        if self.sees_name(name) {
             self.take();
             Ok(())
         } else {
