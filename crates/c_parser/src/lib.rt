@@ -17,3 +17,6 @@ pub use tree::{
     Primary, Product, ProductSign, Region, Rel, Step, Sum, SumSign, Target, Unary, UnarySign,
     Value,
 };
+
+#[cfg(test)]
+mod tests;
