@@ -9,7 +9,7 @@ mod regions;
 mod tokens;
 
 pub use lexers::Lexer;
-pub use pragmas::{Pragma, pragma_of};
+pub use pragmas::{Pragma, is_pragma, pragma_of};
 pub use regions::{RegionFail, Span, find_region};
 pub use tokens::{BadToken, Token, TokenKind};
 

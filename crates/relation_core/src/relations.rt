@@ -52,6 +52,13 @@ impl Relation {
         self.parts.get(k)
     }
 
+    /// The parts in order.
+    pub fn parts(&self) -> &[Part]
+        ensures { result.now ≡ self.now }
+    {
+        self.parts.as_slice()
+    }
+
     /// The number of parts.
     pub fn len(&self) -> usize
         ensures { result ≡ length self.now }

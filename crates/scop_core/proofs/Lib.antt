@@ -1,8 +1,12 @@
 pub mod RowLists
+pub mod OneLoopForms
 pub mod Orders
 pub mod Reordering
 pub mod Memories
 pub mod Floors
 pub mod Stamps
 pub mod RunLaws
+pub mod SolvedForms
+pub mod SolvedShapes
+mod LayoutChecks
 mod Checks

@@ -7,7 +7,7 @@ use Rattle.std.proofs.lemmas.Bool.Decides.{Decides-int_eq}
 use mathlib.Core.Path.{fun_ext}
 use Rattle.scop_core.specs.Sequences.{In}
 use Rattle.scop_core.specs.declared.accesses.AccessKind.{AccessKind}
-use Rattle.scop_core.specs.Memory.{Cell, Term, More, Memory, same_cell, stored, terms_at, store_each, Use, Event, is_writing, read_here, maybe_written, cells_of, taken, computed, step_of, EventsTouch}
+use Rattle.scop_core.specs.Memory.{Cell, Term, More, Memory, same_cell, stored, terms_at, store_each, Use, Event, is_writing, is_read, is_maybe_written, cells_of, taken, computed, step_of, EventsTouch}
 
 pub bool_tells : (b : Bool) → (b ≡ true) ⊎ (b ≡ false)
 bool_tells true = inl refl
@@ -115,10 +115,10 @@ in_either a [] ys i = inr i
 in_either a (x ∷ xs) ys (inl e) = inl (inl e)
 in_either a (x ∷ xs) ys (inr i) = elim (in_either a xs ys i) as (λ _. In a (x ∷ xs) ⊎ In a ys) [ inl j ↦ inl (inr j) | inr j ↦ inr j ]
 
-used_at : (e : Event) (c : Cell) → In c (cells_of read_here e.uses ++ cells_of maybe_written e.uses) → UsedAt e.uses c
-used_at e c i = elim (in_either c (cells_of read_here e.uses) (cells_of maybe_written e.uses) i) as (λ _. UsedAt e.uses c) [
-  | inl j ↦ (let a = use_at read_here e.uses c j in record { at = a.at; among = a.among; cell_is = a.cell_is })
-  | inr j ↦ (let a = use_at maybe_written e.uses c j in record { at = a.at; among = a.among; cell_is = a.cell_is })
+used_at : (e : Event) (c : Cell) → In c (cells_of is_read e.uses ++ cells_of is_maybe_written e.uses) → UsedAt e.uses c
+used_at e c i = elim (in_either c (cells_of is_read e.uses) (cells_of is_maybe_written e.uses) i) as (λ _. UsedAt e.uses c) [
+  | inl j ↦ (let a = use_at is_read e.uses c j in record { at = a.at; among = a.among; cell_is = a.cell_is })
+  | inr j ↦ (let a = use_at is_maybe_written e.uses c j in record { at = a.at; among = a.among; cell_is = a.cell_is })
 ]
 
 -- a cell that one event writes is none that the other writes or takes
@@ -128,7 +128,7 @@ writes_apart a b n c d i j e =
     let v = use_at is_writing b.uses d j in
     n (u.at, v.at, u.among, v.among, u.cell_is ∙ e ∙ sym v.cell_is, inl u.kind_is)
 
-takes_apart : (a b : Event) → ¬ EventsTouch a b → (c d : Cell) → In c (cells_of is_writing a.uses) → In d (cells_of read_here b.uses ++ cells_of maybe_written b.uses) → ¬ (c ≡ d)
+takes_apart : (a b : Event) → ¬ EventsTouch a b → (c d : Cell) → In c (cells_of is_writing a.uses) → In d (cells_of is_read b.uses ++ cells_of is_maybe_written b.uses) → ¬ (c ≡ d)
 takes_apart a b n c d i j e =
     let u = use_at is_writing a.uses c i in
     let v = used_at b d j in
@@ -143,7 +143,7 @@ touch_back a b t = (t.1, t.0, t.3, t.2, sym t.4, other t.5)
     other (inr q) = inl q
 
 taken_past : (a b : Event) → ¬ EventsTouch b a → (m : Memory) → taken a (step_of b m) ≡ taken a m
-taken_past a b n m = reads_past (computed b (taken b m)) 1 (cells_of is_writing b.uses) m (cells_of read_here a.uses ++ cells_of maybe_written a.uses) (takes_apart b a n)
+taken_past a b n m = reads_past (computed b (taken b m)) 1 (cells_of is_writing b.uses) m (cells_of is_read a.uses ++ cells_of is_maybe_written a.uses) (takes_apart b a n)
 
 pub steps_commute : (a b : Event) → ¬ EventsTouch a b → (m : Memory) → step_of a (step_of b m) ≡ step_of b (step_of a m)
 steps_commute a b n m =

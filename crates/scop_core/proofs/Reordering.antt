@@ -40,12 +40,12 @@ front_precedes a x [] behind i = absurd i
 front_precedes a x (y ∷ ys) behind (inl e) = inl (e, in_middle x ys behind)
 front_precedes a x (y ∷ ys) behind (inr i) = inr (front_precedes a x ys behind i)
 
-precedes_ends_in : {X : Type 0} (L : List X) (a b : X) → Precedes L a b → In b L
+pub precedes_ends_in : {X : Type 0} (L : List X) (a b : X) → Precedes L a b → In b L
 precedes_ends_in [] a b p = absurd p
 precedes_ends_in (x ∷ xs) a b (inl p) = inr p.1
 precedes_ends_in (x ∷ xs) a b (inr p) = inr (precedes_ends_in xs a b p)
 
-precedes_begins_in : {X : Type 0} (L : List X) (a b : X) → Precedes L a b → In a L
+pub precedes_begins_in : {X : Type 0} (L : List X) (a b : X) → Precedes L a b → In a L
 precedes_begins_in [] a b p = absurd p
 precedes_begins_in (x ∷ xs) a b (inl p) = inl p.0
 precedes_begins_in (x ∷ xs) a b (inr p) = inr (precedes_begins_in xs a b p)

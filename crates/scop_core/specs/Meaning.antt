@@ -28,6 +28,7 @@ statement_at statements (suc k) = slice_get statements k
 abbrev pub InDomain : Statement → List ℤ → List ℤ → Type 0
 InDomain s x n = (length x ≡ length s.body.iterators) × LiesInSome s.domain x [] n
 
+-- a is an instance of S at n: there is such a statement, and the values are in its domain
 abbrev pub IsInstance : ScopData → List ℤ → Instance → Type 0
 IsInstance S n a = IsSomeAnd (statement_at S.statements a.statement) (λ s. InDomain s a.values n)
 
@@ -44,6 +45,7 @@ abbrev pub floors_after : List ℤ → List Floor → List ℤ → List ℤ → 
 floors_after earlier [] x n = earlier
 floors_after earlier (f ∷ fs) x n = floors_after (earlier ++ floor_of (affine_at f.value x earlier n) f.size ∷ []) fs x n
 
+-- the values of the levels
 abbrev pub levels_at : List Affine → List ℤ → List ℤ → List ℤ → List ℤ
 levels_at levels x f n = map (λ level. affine_at level x f n) levels
 
@@ -57,6 +59,7 @@ interleaved (b ∷ betas) (v ∷ levels) = b ∷ (v ∷ interleaved betas levels
 abbrev pub stamp_of : Schedule → List ℤ → List ℤ → List ℤ
 stamp_of schedule x n = interleaved schedule.betas (levels_at schedule.levels x (floors_after [] schedule.floors x n) n)
 
+-- the stamp in a statement; where there is none, the empty list
 abbrev pub stamp_in : Option Statement → List ℤ → List ℤ → List ℤ
 stamp_in None x n = []
 stamp_in (Some s) x n = stamp_of s.schedule x n
@@ -69,6 +72,7 @@ stamp S n a = stamp_in (statement_at S.statements a.statement) a.values n
 abbrev pub use_at : List ℤ → List ℤ → Access → Use
 use_at x n access = record { kind = access.kind; cell = record { array = access.array; subscripts = map (λ subscript. affine_at subscript x [] n) access.subscripts } }
 
+-- the execution of a statement at iterator values x; where there is none, it does nothing
 abbrev pub event_in : Option Statement → List ℤ → List ℤ → Event
 event_in None x n = record { uses = []; text = []; names = []; values = x; parameters = n }
 event_in (Some s) x n = record { uses = map (λ access. use_at x n access) s.accesses; text = s.body.text; names = s.body.iterators; values = x; parameters = n }

@@ -21,10 +21,11 @@ mutual
     NoTerms : Terms
     More : (first : Term) → (rest : Terms) → Terms
 
--- a memory tells what each cell holds; two memories are the same where they agree at every cell
+-- a memory tells what each cell holds
 abbrev pub Memory : Type 0
 Memory = Cell → Term
 
+-- two memories hold the same term in every cell
 abbrev pub Agree : Memory → Memory → Type 0
 Agree m k = (c : Cell) → m c ≡ k c
 
@@ -63,20 +64,23 @@ pub record Event : Type 0 where
   pub values : List ℤ
   pub parameters : List ℤ
 
+-- a writing access writes its cell, or may write it
 abbrev pub is_writing : AccessKind → Bool
 is_writing Read = false
 is_writing Write = true
 is_writing MayWrite = true
 
-abbrev pub read_here : AccessKind → Bool
-read_here Read = true
-read_here Write = false
-read_here MayWrite = false
+-- an access that only reads
+abbrev pub is_read : AccessKind → Bool
+is_read Read = true
+is_read Write = false
+is_read MayWrite = false
 
-abbrev pub maybe_written : AccessKind → Bool
-maybe_written Read = false
-maybe_written Write = false
-maybe_written MayWrite = true
+-- an access that may write its cell; the body takes what the cell had, and may answer it
+abbrev pub is_maybe_written : AccessKind → Bool
+is_maybe_written Read = false
+is_maybe_written Write = false
+is_maybe_written MayWrite = true
 
 -- the cells of the accesses of such kinds, in order
 abbrev pub cells_of : (AccessKind → Bool) → List Use → List Cell
@@ -85,7 +89,7 @@ cells_of chosen (u ∷ us) = cond (chosen u.kind) (u.cell ∷ cells_of chosen us
 
 -- the terms that the body takes: those of the cells that it reads, then of those that it may write
 abbrev pub taken : Event → Memory → Terms
-taken e m = terms_at m (cells_of read_here e.uses ++ cells_of maybe_written e.uses)
+taken e m = terms_at m (cells_of is_read e.uses ++ cells_of is_maybe_written e.uses)
 
 -- what the body computes for the writing access number w, from 1
 abbrev pub computed : Event → Terms → ℕ → Term

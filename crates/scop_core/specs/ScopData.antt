@@ -1,5 +1,5 @@
 -- A SCoP as data: what contracts see of a Scop.
-use Rattle.std.specs.Prelude.{ℤ, ℕ, List, Option}
+use Rattle.std.specs.Prelude.{ℤ, ℕ, List, [], Option, None, Some}
 use Rattle.relation_core.specs.Systems.{System}
 use Rattle.scop_core.specs.declared.statements.Extension.{Extension}
 use Rattle.scop_core.specs.declared.statements.Statement.{Statement}
@@ -13,3 +13,7 @@ pub record ScopData : Type 0 where
   pub statements : List Statement
   pub arrays : Option (List (ℤ × List ℕ))
   pub extensions : List Extension
+
+-- the arrays; none where they are not present
+abbrev pub arrays_of : ScopData → List (ℤ × List ℕ)
+arrays_of scop = elim scop.arrays [ None ↦ [] | Some arrays ↦ arrays ]

@@ -2,7 +2,7 @@
 use Rattle.std.specs.Prelude.{◌≡◌, ◌⊎◌, List, [], ◌∷◌, ℤ}
 use Rattle.scop_core.specs.Order.{Before}
 
--- a stands in the list
+-- a is a member of the list
 abbrev pub In : {X : Type 0} → X → List X → Type 0
 In a [] = ⊥
 In a (x ∷ xs) = (x ≡ a) ⊎ In a xs
@@ -35,8 +35,8 @@ pub record SameOrder (X : Type 0) (Touch : X → X → Type 0) (L M : List X) : 
   pub once_right : Distinct M
   pub into : (a : X) → In a L → In a M
   pub back : (a : X) → In a M → In a L
-  pub there : (a b : X) → Touch a b → Precedes L a b → Precedes M a b
-  pub here : (a b : X) → Touch a b → Precedes M a b → Precedes L a b
+  pub kept : (a b : X) → Touch a b → Precedes L a b → Precedes M a b
+  pub kept_back : (a b : X) → Touch a b → Precedes M a b → Precedes L a b
 
 -- the state after the steps of the list's members, one after the other
 abbrev pub fold_steps : {X S : Type 0} → (X → S → S) → List X → S → S

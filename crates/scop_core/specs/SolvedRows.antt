@@ -128,6 +128,10 @@ pub record PairFits (k : ℕ) (floor : Floor) : Type 0 where
   pub local : unsigned_abs (entry floor.value.floors k +ℤ neg_ℤ floor.size) < 2 ^ 127
   pub constant : unsigned_abs ((neg_ℤ floor.value.constant +ℤ floor.size) +ℤ negsuc 0) < 2 ^ 127
 
+-- the rows of each floor are in range
+abbrev pub PairsFit : List Floor → Type 0
+PairsFit floors = (k : ℕ) (floor : Floor) → k < length floors → PairFits k (get_or floors k floor)
+
 -- a schedule can be printed: every value has its sizes, betas and levels alternate, no number of the
 -- shape is too large, and the rows of each floor are in range
 pub record HasRelation (iterators parameters : ℕ) (schedule : Schedule) : Type 0 where
@@ -135,7 +139,7 @@ pub record HasRelation (iterators parameters : ℕ) (schedule : Schedule) : Type
   pub floors : All (λ floor. HasSizes iterators (length schedule.floors) parameters floor.value) schedule.floors
   pub betas : length schedule.betas ≡ length schedule.levels + 1
   pub limits : HasLimits (schedule_shape iterators parameters schedule)
-  pub pairs : (k : ℕ) (floor : Floor) → k < length schedule.floors → PairFits k (get_or schedule.floors k floor)
+  pub pairs : PairsFit schedule.floors
 
 -- an access can be printed: every subscript has its sizes, and no number of the shape is too large
 pub record HasAccessRelation (iterators parameters : ℕ) (access : Access) : Type 0 where

@@ -3,9 +3,9 @@ use Rattle.std.specs.Prelude.{◌≡◌, ◌≢◌, ◌⊎◌, ℕ, ◌+◌, Lis
 use Rattle.scop_core.specs.declared.statements.Statement.{Statement}
 use Rattle.scop_core.specs.ScopData.{ScopData}
 use Rattle.scop_core.specs.Order.{Before, IsPrefix}
-use Rattle.scop_core.specs.Sequences.{SameOrder}
+use Rattle.scop_core.specs.Sequences.{In, Precedes, Distinct, SameOrder}
 use Rattle.scop_core.specs.Memory.{Memory, Agree}
-use Rattle.scop_core.specs.Meaning.{Instance, statement_at, IsInstance, floor_of, stamp, step, Touch, Run, memory_after}
+use Rattle.scop_core.specs.Meaning.{Instance, statement_at, IsInstance, floor_of, stamp, step, Touch, Conflict, Run, memory_after}
 
 -- s is statement number k
 abbrev pub IsStatement : List Statement → ℕ → Statement → Type 0
@@ -20,10 +20,11 @@ pub record HasValidSchedules (statements : List Statement) : Type 0 where
 abbrev pub FloorIsGreatest : Type 0
 FloorIsGreatest = (e s : ℤ) → pos 1 ≤ℤ s → ((s *ℤ floor_of e s) ≤ℤ e) × ((k : ℤ) → (s *ℤ k) ≤ℤ e → k ≤ℤ floor_of e s)
 
+-- a stamp before a second one, and that before a third one, is before the third one
 abbrev pub BeforeIsTransitive : Type 0
 BeforeIsTransitive = (p q r : List ℤ) → Before p q → Before q r → Before p r
 
--- with transitivity: of two stamps at most one is before the other
+-- no stamp is before itself; with the law above, of two stamps at most one is before the other
 abbrev pub BeforeIsIrreflexive : Type 0
 BeforeIsIrreflexive = (p : List ℤ) → ¬ Before p p
 
@@ -48,3 +49,18 @@ StepsCommute = (S : ScopData) (n : List ℤ) (a b : Instance) → ¬ Touch S n a
 -- two lists of the same instances, each once, in which any two that touch stand in the same order, give one memory
 abbrev pub ReorderingKeepsMemory : Type 0
 ReorderingKeepsMemory = (S : ScopData) (n : List ℤ) (L M : List Instance) → SameOrder Instance (Touch S n) L M → (m : Memory) → Agree (memory_after S n L m) (memory_after S n M m)
+
+-- two instances with one stamp are one, where there is a run
+abbrev pub RunHasNoTies : Type 0
+RunHasNoTies = (S : ScopData) (n : List ℤ) (L : List Instance) → Run S n L → (a b : Instance) → IsInstance S n a → IsInstance S n b → stamp S n a ≡ stamp S n b → a ≡ b
+
+-- M has the members of L, each once, and of each conflict the first member stands before the second one
+pub record KeepsConflicts (S : ScopData) (n : List ℤ) (L M : List Instance) : Type 0 where
+  pub once : Distinct M
+  pub into : (a : Instance) → In a L → In a M
+  pub back : (a : Instance) → In a M → In a L
+  pub order : (a b : Instance) → Conflict S n a b → Precedes M a b
+
+-- an order of a run's instances that keeps every conflict gives the run's memory
+abbrev pub KeptConflictsKeepMemory : Type 0
+KeptConflictsKeepMemory = (S : ScopData) (n : List ℤ) (L M : List Instance) → Run S n L → KeepsConflicts S n L M → (m : Memory) → Agree (memory_after S n L m) (memory_after S n M m)

@@ -1,7 +1,7 @@
 //! The laws of stamps, runs and memories, for every SCoP: functions that do nothing, and whose
 //! contracts are the laws.
 
-ghost use Rattle.scop_core.specs.Theorems.{FloorIsGreatest, BeforeIsTransitive, BeforeIsIrreflexive, StampsAreOrdered, StatementsAreOrdered, RunIsUnique, StepsCommute, ReorderingKeepsMemory};
+ghost use Rattle.scop_core.specs.Theorems.{FloorIsGreatest, BeforeIsTransitive, BeforeIsIrreflexive, StampsAreOrdered, StatementsAreOrdered, RunIsUnique, StepsCommute, ReorderingKeepsMemory, RunHasNoTies, KeptConflictsKeepMemory};
 
 /// The value of a floor is the greatest integer not above its quotient, for negative ones too.
 pub fn floor_is_greatest()
@@ -41,4 +41,14 @@ pub fn steps_commute()
 /// Two orders of the same instances in which those that touch keep their order give one memory.
 pub fn reordering_keeps_memory()
     ensures { ReorderingKeepsMemory }
+{}
+
+/// Where there is a run, no two instances have one stamp.
+pub fn run_has_no_ties()
+    ensures { RunHasNoTies }
+{}
+
+/// An order of the instances of a run that keeps the order of every conflict gives the run's memory.
+pub fn kept_conflicts_keep_memory()
+    ensures { KeptConflictsKeepMemory }
 {}

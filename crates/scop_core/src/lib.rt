@@ -4,13 +4,18 @@
 
 mod accesses;
 mod affines;
+mod copies;
 pub mod laws;
+mod one_loops;
 mod origins;
 mod raw_pieces;
 mod row_builders;
 mod schedules;
 mod scops;
+mod solved_forms;
 mod solved_parts;
+mod solved_tests;
+mod solving;
 mod statements;
 
 pub use accesses::{Access, AccessKind};

@@ -1,0 +1,11 @@
+use Rattle.std.proofs.Common.{◌+◌, ◌-◌, arith}
+use Rattle.scop_core.specs.SolvedForm.{values_from}
+use Rattle.scop_core.proofs.SolvedForms.{values_more, more_one}
+use Rattle.scop_core.proofs.solved_forms.subscripts_of.Goals as goal
+
+pub loop-k-preserved : goal.loop-k-preserved
+loop-k-preserved c = record {
+  all = values_more c.args.part.now c.args.n c.loop-k.k c.loop-k.made c.push_subscript.new.made _ (omega arith) c.in_ok-push_subscript.ensures.made c.loop-k.invariant.all;
+  sizes = c.in_ok-push_subscript.ensures.sizes c.loop-k.invariant.sizes;
+  count = more_one _ _ _ _ c.in_ok-push_subscript.ensures.made c.loop-k.invariant.count;
+}
