@@ -1,0 +1,171 @@
+//! Regions that are read, and the refusal of each that is not.
+
+use crate::{Node, parse_region};
+use c_lexer::Span;
+use std::alloc::AllocError;
+use std::test::Fail as Failed;
+use suite_base::{Fail, Place, Refusal};
+
+/// What a text is read to: the number of its statements, or the letter of the refusal and its place.
+#[derive(Clone, Copy, Debug, PartialEq, Eq)]
+enum Outcome {
+    Nodes(usize),
+    Token(u32, u32),
+    Number(u32, u32),
+    Syntax(u32, u32),
+    Deep(u32, u32),
+    Memory,
+}
+
+fn refused(refusal: Refusal) -> Outcome {
+    match refusal {
+        Refusal::BadToken(place) => Outcome::Token(place.line, place.column),
+        Refusal::NumberTooLarge(place) => Outcome::Number(place.line, place.column),
+        Refusal::BadSyntax(place) => Outcome::Syntax(place.line, place.column),
+        Refusal::TooDeep(place) => Outcome::Deep(place.line, place.column),
+        _ => Outcome::Memory,
+    }
+}
+
+fn read(alloc: std::alloc::Global, text: &[u8]) -> Outcome {
+    if text.len() > 100000 {
+        return Outcome::Memory;
+    }
+    let first = Place { line: 1, column: 1 };
+    let span = Span {
+        from: 0,
+        to: text.len(),
+        first,
+    };
+    match parse_region(alloc, text, span) {
+        Ok(region) => Outcome::Nodes(region.nodes.len()),
+        Err(Fail::Memory) => Outcome::Memory,
+        Err(Fail::Refused(refusal)) => refused(refusal),
+    }
+}
+
+#[test]
+fn statements(rt: HostRuntime) {
+    let cases: [(&[u8], Outcome); 30] = [
+        (b"", Outcome::Nodes(0)),
+        (b";", Outcome::Nodes(1)),
+        (b"a = 1;", Outcome::Nodes(1)),
+        (
+            b"a += 1; b -= 1; c *= 2; d /= 2; e %= 2;",
+            Outcome::Nodes(5),
+        ),
+        (
+            b"a[i][j+1] = b[i*2] + f(x, 2) - (c < d ? 1 : 2);",
+            Outcome::Nodes(1),
+        ),
+        (b"a = f();", Outcome::Nodes(1)),
+        (b"for (i = 0; i < N; i++) a[i] = 0;", Outcome::Nodes(1)),
+        (
+            b"for (int i = N; i >= 0; i -= 1) { a[i] = 0; ; }",
+            Outcome::Nodes(1),
+        ),
+        (b"for (i = 0; i <= N; ++i) ;", Outcome::Nodes(1)),
+        (b"for (i = 0; i < N; i += 2) ;", Outcome::Nodes(1)),
+        (b"for (i = N; i > 0; --i) ;", Outcome::Nodes(1)),
+        (
+            b"if (a == b && !(c || d)) x = 1; else { }",
+            Outcome::Nodes(1),
+        ),
+        (b"a = max(1, min(2, ceild(n, 2)));", Outcome::Nodes(1)),
+        (b"a = 1e+5 + 0x1e+2 * 007 % 2..3;", Outcome::Nodes(1)),
+        (b"a = - - + !b;", Outcome::Nodes(1)),
+        (b"a = b", Outcome::Syntax(1, 6)),
+        (b"a = b;\n c = ", Outcome::Syntax(2, 6)),
+        (b"a + b;", Outcome::Syntax(1, 3)),
+        (b"a = max + 1;", Outcome::Syntax(1, 9)),
+        (b"max(1) = 2;", Outcome::Syntax(1, 1)),
+        (b"a = while;", Outcome::Syntax(1, 5)),
+        (b"for (i = 0; j < N; i++) ;", Outcome::Syntax(1, 13)),
+        (b"for (i = 0; i < N; j++) ;", Outcome::Syntax(1, 20)),
+        (b"for (i = 0; i < N; i--) ;", Outcome::Syntax(1, 21)),
+        (b"for (i = 0; i == N; i++) ;", Outcome::Syntax(1, 15)),
+        (b"a[i < 2] = 1;", Outcome::Syntax(1, 5)),
+        (b"else ;", Outcome::Syntax(1, 1)),
+        (b"a = 1 & 2;", Outcome::Token(1, 7)),
+        (b"a = 1; /* b", Outcome::Token(1, 8)),
+        (
+            b"170141183460469231731687303715884105728",
+            Outcome::Number(1, 1),
+        ),
+    ];
+    for (text, wanted) in cases {
+        assert_eq!(rt; read(rt.alloc(), text), wanted);
+    }
+}
+
+/// A text of `count` times `piece`, and then `end`.
+fn repeated(
+    alloc: std::alloc::Global,
+    piece: &[u8],
+    count: usize,
+    end: &[u8],
+) -> Result<Vec<u8>, AllocError> {
+    let mut text = Vec::new(alloc);
+    for _ in 0..count {
+        text.extend_from_slice(piece)?;
+    }
+    text.extend_from_slice(end)?;
+    Ok(text)
+}
+
+#[test]
+fn depths(rt: HostRuntime) -> Result<(), Failed> {
+    let cases: [(&[u8], usize, &[u8], Outcome); 15] = [
+        (b"for(i=0;i<2;i++)", 12, b";", Outcome::Nodes(1)),
+        (b"for(i=0;i<2;i++)", 13, b";", Outcome::Deep(1, 193)),
+        (b"{", 64, b"", Outcome::Syntax(1, 65)),
+        (b"{", 65, b"", Outcome::Deep(1, 65)),
+        (b"if(a)", 64, b";", Outcome::Nodes(1)),
+        (b"if(a)", 65, b";", Outcome::Deep(1, 323)),
+        (b"if(a)", 64, b"{", Outcome::Deep(1, 321)),
+        (b"if(a)", 64, b")", Outcome::Syntax(1, 321)),
+        (b"if(a);else ", 64, b";", Outcome::Nodes(1)),
+        (b"if(a);else ", 65, b";", Outcome::Deep(1, 707)),
+        (b"{", 64, b"if (a) ;", Outcome::Deep(1, 68)),
+        (b"{", 64, b"for (i", Outcome::Deep(1, 69)),
+        (b"{", 64, b"a[0] = 1;", Outcome::Deep(1, 66)),
+        (b"{", 64, b"a = -1;", Outcome::Deep(1, 69)),
+        (b"{", 64, b"a = b ? 1 : 2;", Outcome::Deep(1, 71)),
+    ];
+    for (piece, count, end, wanted) in cases {
+        let text = repeated(rt.alloc(), piece, count, end)?;
+        assert_eq!(rt; read(rt.alloc(), text.as_slice()), wanted);
+    }
+    Ok(())
+}
+
+/// An `else` belongs to the nearest `if`, and a body goes up to its `;`.
+#[test]
+fn shapes(rt: HostRuntime) -> Result<(), Failed> {
+    let text: &[u8] = b"if (a) if (b) x[i] = 1 ; else ;";
+    assert!(rt; text.len() < 1000);
+    let first = Place { line: 1, column: 1 };
+    let span = Span {
+        from: 0,
+        to: text.len(),
+        first,
+    };
+    let Ok(region) = parse_region(rt.alloc(), text, span) else {
+        return Err(Failed::from(AllocError));
+    };
+    let Some(Node::If(outer)) = region.nodes.get(0) else {
+        return Err(Failed::from(AllocError));
+    };
+    assert!(rt; outer.get().other.is_none());
+    let Node::If(inner) = &outer.get().then else {
+        return Err(Failed::from(AllocError));
+    };
+    assert!(rt; inner.get().other.is_some());
+    let Node::Assign(assign) = &inner.get().then else {
+        return Err(Failed::from(AllocError));
+    };
+    assert_eq!(rt; (assign.body.from, assign.body.to), (14, 23));
+    assert_eq!(rt; (assign.target.name.from, assign.target.name.to), (14, 15));
+    assert_eq!(rt; assign.target.subscripts.len(), 1);
+    Ok(())
+}
