@@ -8,5 +8,6 @@ pub mod Stamps
 pub mod RunLaws
 pub mod SolvedForms
 pub mod SolvedShapes
+pub mod Assemblies
 mod LayoutChecks
 mod Checks

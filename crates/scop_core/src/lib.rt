@@ -4,8 +4,11 @@
 
 mod accesses;
 mod affines;
+mod assembling;
+mod clashes;
 mod copies;
 pub mod laws;
+mod limits;
 mod one_loops;
 mod origins;
 mod raw_pieces;
