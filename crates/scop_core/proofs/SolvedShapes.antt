@@ -1,10 +1,9 @@
 -- The sizes and ranges of what a part in solved form gives.
 use Rattle.std.proofs.Common.{◌≡◌, ℕ, zero, suc, ◌+◌, ◌-◌, ◌*◌, ◌<◌, ◌≤◌, ◌^◌, Bool, true, false, ◌&&◌, List, [], ◌∷◌, ◌++◌, length, take, drop, get_or, ℤ, pos, negsuc, ◌+ℤ◌, neg_ℤ, unsigned_abs, refl, ap, sym, ◌∙◌, arith, add-one, inl, inr, ◌⊎◌}
 use Rattle.std.specs.Prelude.{slice_range, ◌==◌, nat_le, ◌%◌}
-use Rattle.std.proofs.lemmas.Bool.{nat_tests}
+use Rattle.std.proofs.lemmas.Bool.Decides.{nat_tests, Decides-int_eq}
 use Rattle.std.specs.Ordering.{int_eq}
 use Rattle.std.proofs.lemmas.List.{get_or-take, get_or-drop}
-use Rattle.std.proofs.lemmas.Bool.Decides.{Decides-int_eq}
 use Rattle.row_core.specs.Rows.{entry}
 use Rattle.relation_core.specs.Systems.{System, columns, width}
 use Rattle.relation_core.specs.declared.shapes.Shape.{Shape}

@@ -161,11 +161,14 @@ first_clash j before [] = None
 first_clash j before (statement ∷ statements) =
     or_else (clash_among 1 j before statement.schedule.betas) (first_clash (j + 1) (before ++ statement ∷ []) statements)
 
--- the first refusal of the pieces: a limit, a statement that is not solved, a clash
+-- the first limit that is passed, of the whole and then of a statement, or else the first statement that is not solved
+abbrev pub early_refusal_of : ScopPieces → Option Refusal
+early_refusal_of pieces =
+    or_else (whole_limit pieces) (or_else (first_limit 1 pieces.statements) (first_unsolved 1 pieces.statements))
+
+-- the first refusal of the pieces; last comes the first clash of beta vectors
 abbrev pub refusal_of : ScopPieces → Option Refusal
-refusal_of pieces =
-    or_else (whole_limit pieces) (or_else (first_limit 1 pieces.statements)
-    (or_else (first_unsolved 1 pieces.statements) (first_clash 1 [] (solved_statements 1 pieces.statements))))
+refusal_of pieces = or_else (early_refusal_of pieces) (first_clash 1 [] (solved_statements 1 pieces.statements))
 
 -- the SCoP of the pieces
 abbrev pub scop_of : ScopPieces → ScopData
@@ -188,8 +191,12 @@ pub record HasInputs (inputs parameters : ℕ) (part : System) : Type 0 where
   pub inputs_are : part.shape.inputs ≡ inputs
   pub parameters_are : part.shape.parameters ≡ parameters
 
+-- the body of a statement names its iterators
+abbrev pub HasNames : RawStatement → Type 0
+HasNames raw = IfSome raw.body (λ body. length body.iterators ≡ iterators_of raw)
+
 -- the relations of a statement fit its iterators and the parameters, and so does its body
 pub record HasShapes (parameters : ℕ) (raw : RawStatement) : Type 0 where
   pub scattering : All (HasInputs (iterators_of raw) parameters) raw.scattering
   pub accesses : All (λ access. All (HasInputs (iterators_of raw) parameters) access.1) raw.accesses
-  pub body : IfSome raw.body (λ body. length body.iterators ≡ iterators_of raw)
+  pub body : HasNames raw

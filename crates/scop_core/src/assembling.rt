@@ -4,7 +4,7 @@ ghost use Rattle.std.specs.Prelude.{◌≡◌, ◌<◌, ◌≤◌, ◌+◌, [], 
 ghost use Rattle.std.specs.Fmt.{decimal};
 ghost use Rattle.scop_core.specs.SolvedRows.{HasRelation, HasAccessRelation};
 ghost use Rattle.scop_core.specs.SolvedForm.{is_scattering, is_access, schedule_of, access_of};
-ghost use Rattle.scop_core.specs.Assembly.{is_one, the_part, are_solved, is_solved, first_unsolved, iterators_of, default_names, body_from, solved_accesses, solved_statement, solved_statements, HasInputs, HasShapes};
+ghost use Rattle.scop_core.specs.Assembly.{is_one, the_part, are_solved, is_solved, first_unsolved, iterators_of, default_names, body_from, solved_accesses, solved_statement, solved_statements, HasInputs, HasNames, HasShapes};
 ghost use Rattle.scop_core.specs.Validity.{HasRelations};
 
 use crate::accesses::{Access, AccessKind};
@@ -15,7 +15,7 @@ use crate::solved_forms::{solved_access, solved_schedule, solves_access, solves_
 use crate::statements::{Body, Statement};
 use relation_core::Relation;
 use std::alloc::Global;
-use suite_base::{List, NoMemory, Text};
+use suite_base::{List, NoMemory, Refusal, Text};
 
 /// Whether the relation is one scattering in solved form.
 fn is_solved_scattering(alloc: Global, relation: &Relation) -> Result<bool, NoMemory>
@@ -50,7 +50,7 @@ fn are_solved_accesses(alloc: Global, accesses: &[(AccessKind, Relation)]) -> Re
 }
 
 /// Whether the scattering and the accesses of a statement are in solved form.
-pub fn is_solved_statement(alloc: Global, raw: &RawStatement) -> Result<bool, NoMemory>
+fn is_solved_statement(alloc: Global, raw: &RawStatement) -> Result<bool, NoMemory>
     ensures { IfOk result (λ answer. answer ≡ is_solved raw.now) }
 {
     if !is_solved_scattering(alloc, &raw.scattering)? {
@@ -61,7 +61,8 @@ pub fn is_solved_statement(alloc: Global, raw: &RawStatement) -> Result<bool, No
 
 /// The number of iterators of a statement: the outputs of its domain.
 fn iterator_count(raw: &RawStatement) -> usize
-    ensures { result ≡ iterators_of raw.now }
+    ensures answer { result ≡ iterators_of raw.now }
+    ensures limit { result ≤ 65536 }
 {
     match raw.domain.parts() {
         [] => 0,
@@ -184,4 +185,69 @@ fn accesses_from(
         push_access(alloc, access, &mut made)?;
     }
     Ok(made)
+}
+
+/// Statement number `number` in solved form.
+fn statement_from(alloc: Global, number: usize, raw: &RawStatement) -> Result<Statement, NoMemory>
+    requires solved { is_solved raw.now ≡ true }
+    requires names { HasNames raw.now }
+    ensures statement { IfOk result (λ made. made ≡ solved_statement number raw.now) }
+    ensures printable { IfOk result (λ made. (p : ℕ) → HasShapes p raw.now → HasRelations p made) }
+{
+    let domain = copied_relation(alloc, &raw.domain)?;
+    let schedule = schedule_from(alloc, &raw.scattering)?;
+    let accesses = accesses_from(alloc, raw.accesses.as_slice())?;
+    let body = body_of(alloc, number, iterator_count(raw), &raw.body)?;
+    let extensions = copied_extensions(alloc, raw.extensions.as_slice())?;
+    Ok(Statement {
+        domain,
+        schedule,
+        accesses,
+        body,
+        extensions,
+    })
+}
+
+/// Appends statement number `number` in solved form.
+fn push_statement(
+    alloc: Global,
+    number: usize,
+    raw: &RawStatement,
+    made: &mut List<Statement>,
+) -> Result<(), NoMemory>
+    requires solved { is_solved raw.now ≡ true }
+    requires names { HasNames raw.now }
+    ensures made { OnOk result (made.new ≡ made.old ++ solved_statement number raw.now ∷ []) }
+    ensures printable { OnOk result ((p : ℕ) → HasShapes p raw.now → All (HasRelations p) made.old → All (HasRelations p) made.new) }
+{
+    let one = statement_from(alloc, number, raw)?;
+    made.push(one)?;
+    Ok(())
+}
+
+/// The statements in solved form.
+pub fn statements_from(alloc: Global, raws: &[RawStatement]) -> Result<List<Statement>, NoMemory>
+    requires solved { first_unsolved 1 raws.now ≡ None }
+    requires names { All HasNames raws.now }
+    ensures statements { IfOk result (λ made. made ≡ solved_statements 1 raws.now) }
+    ensures printable { IfOk result (λ made. (p : ℕ) → All (HasShapes p) raws.now → All (HasRelations p) made) }
+{
+    let mut made = List::new(alloc);
+    for k in 0..raws.len() {
+        push_statement(alloc, k + 1, &raws[k], &mut made)?;
+    }
+    Ok(made)
+}
+
+/// The first statement that is not in solved form.
+pub fn unsolved_statement(alloc: Global, raws: &[RawStatement]) -> Result<Option<Refusal>, NoMemory>
+    requires { length raws.now ≤ 1024 }
+    ensures { IfOk result (λ refusal. refusal ≡ first_unsolved 1 raws.now) }
+{
+    for k in 0..raws.len() {
+        if !is_solved_statement(alloc, &raws[k])? {
+            return Ok(Some(Refusal::NotSolved(k as u32 + 1)));
+        }
+    }
+    Ok(None)
 }
