@@ -97,3 +97,7 @@ refused_here a b x e = rw e refl
 
 pub passed_here : {X : Type 0} (a b : Option X) → a ≡ None → or_else a b ≡ b
 passed_here a b e = rw e refl
+
+pub length_solved : (k : ℕ) (raws : List RawStatement) → length (solved_statements k raws) ≡ length raws
+length_solved k [] = refl
+length_solved k (raw ∷ raws) = ap suc (length_solved (k + 1) raws)

@@ -1,5 +1,4 @@
 pub mod RowLists
-pub mod OneLoopForms
 pub mod Orders
 pub mod Reordering
 pub mod Memories

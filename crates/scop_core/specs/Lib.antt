@@ -2,7 +2,6 @@ pub mod ScopData
 pub mod SolvedRows
 pub mod Layouts
 pub mod Validity
-pub mod OneLoops
 pub mod Order
 pub mod Sequences
 pub mod Memory

@@ -9,7 +9,6 @@ mod clashes;
 mod copies;
 pub mod laws;
 mod limits;
-mod one_loops;
 mod origins;
 mod raw_pieces;
 mod row_builders;

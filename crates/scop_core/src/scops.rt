@@ -3,11 +3,15 @@
 ghost use Rattle.std.specs.Prelude.{◌≡◌, ◌<◌, length, ◌≤◌, slice_get, None, All, MatchOption, IsSomeAnd, OnSome, OnOk, IfOk, IfErr};
 ghost use Rattle.std.specs.Option.{option_copied};
 ghost use Rattle.scop_core.specs.Assembly.{first_unsolved, solved_statements, early_refusal_of, refusal_of, scop_of, HasCause, HasShapes};
-ghost use Rattle.scop_core.specs.ScopData.{arrays_of};
+ghost use Rattle.scop_core.specs.ScopData.{arrays_of, extended};
 ghost use Rattle.scop_core.specs.Validity.{HasRelations, IsValid};
 
 use crate::assembling::{statements_from, unsolved_statement};
 use crate::clashes::statements_clash;
+use crate::copies::{
+    copied_array_list, copied_extensions, copied_names, copied_part, copied_statements,
+    copied_text, extensions_with,
+};
 use crate::limits::{pieces_limit, statements_limit};
 use crate::raw_pieces::ScopPieces;
 use crate::statements::{Extension, Statement};
@@ -62,6 +66,7 @@ fn solved(alloc: Global, pieces: &ScopPieces) -> Result<List<Statement>, NoMemor
     requires shapes { All (HasShapes pieces.now.context.shape.parameters) pieces.now.statements }
     requires solved { first_unsolved 1 pieces.now.statements ≡ None }
     ensures statements { IfOk result (λ made. made ≡ solved_statements 1 pieces.now.statements) }
+    ensures count { IfOk result (λ made. length made ≡ length pieces.now.statements) }
     ensures printable { IfOk result (All (HasRelations pieces.now.context.shape.parameters)) }
 {
     let made = statements_from(alloc, pieces.statements.as_slice())?;
@@ -97,6 +102,53 @@ impl Scop {
                     extensions: pieces.extensions,
                 }),
             },
+        }
+    }
+
+    /// An equal SCoP.
+    pub fn copy(&self, alloc: Global) -> Result<Scop, NoMemory>
+        ensures { IfOk result (λ scop. scop ≡ self.now) }
+    {
+        Ok(Scop {
+            language: copied_text(alloc, &self.language)?,
+            context: copied_part(alloc, &self.context)?,
+            parameters: copied_names(alloc, &self.parameters)?,
+            statements: copied_statements(alloc, self.statements.as_slice())?,
+            arrays: copied_array_list(alloc, &self.arrays)?,
+            extensions: copied_extensions(alloc, self.extensions.as_slice())?,
+        })
+    }
+
+    /// The SCoP without its extensions of the same name, and with this one behind the others. On
+    /// want of memory the SCoP comes back unchanged.
+    pub fn with_extension(self, extension: Extension) -> Result<Scop, (Scop, NoMemory)>
+        ensures ok { IfOk result (λ scop. scop ≡ extended self extension) }
+        ensures err { IfErr result (λ back. back.0 ≡ self) }
+    {
+        match extensions_with(
+            self.extensions.allocator(),
+            self.extensions.as_slice(),
+            extension,
+        ) {
+            Err(failed) => Err((self, failed)),
+            Ok(extensions) => {
+                let Scop {
+                    language,
+                    context,
+                    parameters,
+                    statements,
+                    arrays,
+                    extensions: _,
+                } = self;
+                Ok(Scop {
+                    language,
+                    context,
+                    parameters,
+                    statements,
+                    arrays,
+                    extensions,
+                })
+            }
         }
     }
 
