@@ -2,6 +2,8 @@ use Rattle.std.proofs.Common.{◌≡◌, true, false, Some, None, Ok, Err, refl}
 use Rattle.std.specs.Prelude.{codes}
 use Rattle.c_lexer.specs.Pragmas.{is_scop_line, is_endscop_line, pragma_in}
 use Rattle.c_lexer.specs.Regions.{region_of}
+use Rattle.c_lexer.specs.Tokens.{gap, token_at}
+use Rattle.c_lexer.specs.declared.tokens.TokenKind.TheVariants.{Integer, Literal, Sign}
 use Rattle.c_lexer.specs.declared.regions.RegionFail.TheVariants.{NoRegion, OpenRegion, SecondRegion}
 use Rattle.c_lexer.specs.declared.pragmas.Pragma.TheVariants.{Scop, Endscop}
 
@@ -37,3 +39,29 @@ open_region = refl
 
 second_region : region_of (codes "#pragma scop\n#pragma endscop\n\n#pragma scop\n") ≡ Err (SecondRegion 4)
 second_region = refl
+
+-- what separates: blanks, newlines and both comments; one without end does not
+gap_of_all : gap (codes " \t/*a**/// b\n/**/x") ≡ 17
+gap_of_all = refl
+
+gap_without_end : gap (codes " /* a") ≡ 1
+gap_without_end = refl
+
+-- the longest token
+exponent : token_at (codes "1e+5-2") ≡ Some (Literal, 4)
+exponent = refl
+
+hexadecimal : token_at (codes "0x1e+2;") ≡ Some (Literal, 6)
+hexadecimal = refl
+
+points : token_at (codes "2..3 ") ≡ Some (Literal, 4)
+points = refl
+
+zeros : (token_at (codes "007") ≡ Some (Literal, 3)) × (token_at (codes "0)") ≡ Some (Integer, 1)) × (token_at (codes "10;") ≡ Some (Integer, 2))
+zeros = (refl, refl, refl)
+
+signs : (token_at (codes "+++") ≡ Some (Sign, 2)) × (token_at (codes "<==") ≡ Some (Sign, 2)) × (token_at (codes "-e") ≡ Some (Sign, 1))
+signs = (refl, refl, refl)
+
+none_here : (token_at (codes "&x") ≡ None) × (token_at (codes "/*x") ≡ None) × (token_at (codes ".x") ≡ None) × (token_at (codes "#") ≡ None)
+none_here = (refl, refl, refl, refl)

@@ -1,4 +1,6 @@
 pub mod RegionLemmas
 pub mod PlaceLemmas
 pub mod RegionBounds
+pub mod TokenLemmas
+pub mod ReadingLemmas
 mod Checks

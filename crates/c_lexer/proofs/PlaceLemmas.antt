@@ -1,5 +1,5 @@
 -- Places add up, and the places of the lines that finding tells.
-use Rattle.std.proofs.Common.{◌≡◌, ℕ, ◌+◌, ◌-◌, ◌<◌, ◌≤◌, ◌==◌, ◌⊎◌, inl, inr, Bool, true, false, not, ◌&&◌, List, [], ◌∷◌, ◌++◌, length, take, drop, Option, Some, None, refl, ap, subst, sym, ◌∙◌, suc, arith, if◌then◌else◌, length-append, append_assoc}
+use Rattle.std.proofs.Common.{◌≡◌, ℕ, ◌+◌, ◌≤◌, ◌==◌, ◌⊎◌, inl, inr, Bool, true, false, List, [], ◌∷◌, ◌++◌, length, take, Option, Some, None, refl, ap, subst, sym, ◌∙◌, suc, arith, length-append, append_assoc}
 use Rattle.std.specs.List.{list_all}
 use Rattle.std.proofs.lemmas.Bool.{eqb-true}
 use Rattle.std.proofs.Math.Seq.{take-append-add}
@@ -8,7 +8,7 @@ use Rattle.suite_base.specs.declared.places.Place.{Place}
 use Rattle.suite_base.proofs.LineCuts.{bool_tells, in_line}
 use Rattle.c_lexer.specs.Places.{after_byte, after_bytes}
 use Rattle.c_lexer.specs.Regions.{Standing, behind, first_line}
-use Rattle.c_lexer.proofs.RegionLemmas.{standing, standing_is, goes_by, stops_at}
+use Rattle.c_lexer.proofs.RegionLemmas.{standing, goes_by, stops_at}
 
 abbrev pub place_of : ℕ → ℕ → Place
 place_of line column = record { line = line; column = column }

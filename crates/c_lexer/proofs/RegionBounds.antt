@@ -1,13 +1,11 @@
 -- What the lines that were found say of the region.
-use Rattle.std.proofs.Common.{◌≡◌, ℕ, ◌+◌, ◌≤◌, Bool, List, length, take, Option, Some, None, Result, Ok, ap, subst, sym, ◌∙◌, arith, refl}
+use Rattle.std.proofs.Common.{◌≡◌, ℕ, ◌+◌, ◌≤◌, Bool, List, length, Some, None, Ok, ap, sym, ◌∙◌, arith, refl}
 use Rattle.suite_base.specs.Lines.{lines}
 use Rattle.c_lexer.specs.declared.regions.Standing as code
-use Rattle.c_lexer.specs.declared.regions.Span.{Span}
-use Rattle.c_lexer.specs.declared.regions.RegionFail.{RegionFail}
 use Rattle.c_lexer.specs.declared.pragmas.Pragma.TheVariants.{Scop, Endscop}
-use Rattle.c_lexer.specs.Pragmas.{is_pragma, is_scop_line, is_endscop_line}
+use Rattle.c_lexer.specs.Pragmas.{is_pragma}
 use Rattle.c_lexer.specs.Places.{place_at}
-use Rattle.c_lexer.specs.Regions.{Standing, first_line, seen, region_of, region_from, region_between}
+use Rattle.c_lexer.specs.Regions.{first_line, seen, region_of, region_from, region_between}
 use Rattle.c_lexer.proofs.RegionLemmas.{Counts, counts, bytes_within, bytes_over}
 use Rattle.c_lexer.proofs.PlaceLemmas.{placed, place_of, place_is}
 

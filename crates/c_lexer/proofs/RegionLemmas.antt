@@ -1,9 +1,7 @@
 -- What finding a line keeps, and where the lines of a text lie in its bytes.
-use Rattle.std.proofs.Common.{◌≡◌, ℕ, ◌+◌, ◌<◌, ◌≤◌, ◌==◌, ◌⊎◌, inl, inr, Bool, true, false, List, [], ◌∷◌, ◌++◌, length, take, drop, Option, Some, None, refl, ap, subst, sym, ◌∙◌, suc, arith, if◌then◌else◌}
+use Rattle.std.proofs.Common.{◌≡◌, ℕ, ◌+◌, ◌≤◌, ◌==◌, inl, inr, Bool, true, false, List, [], ◌∷◌, length, Option, Some, None, refl, ap, subst, ◌∙◌, suc, arith}
 use Rattle.suite_base.specs.Lines.{lines, put}
-use Rattle.suite_base.specs.declared.places.Place.{Place}
 use Rattle.suite_base.proofs.LineCuts.{bool_tells}
-use Rattle.c_lexer.specs.Places.{after_byte, after_bytes}
 use Rattle.c_lexer.specs.Regions.{Standing, behind, first_line}
 
 -- the bytes of these lines, each with its newline

@@ -1,3 +1,5 @@
 pub mod Pragmas
 pub mod Places
 pub mod Regions
+pub mod Tokens
+pub mod Readings

@@ -1,5 +1,5 @@
 -- Pragma lines: apart from blanks `#`, `pragma`, and `scop` or `endscop`, with a blank before the last word.
-use Rattle.std.specs.Prelude.{ℕ, Bool, true, false, ◌&&◌, if◌then◌else◌, ◌==◌, List, [], ◌∷◌, Option, Some, None, codes}
+use Rattle.std.specs.Prelude.{ℕ, Bool, false, ◌&&◌, if◌then◌else◌, ◌==◌, List, [], ◌∷◌, Option, Some, None, codes}
 use Rattle.std.specs.List.{list_all}
 use Rattle.suite_base.specs.Lines.{is_blank, trim_front}
 use Rattle.c_lexer.specs.declared.pragmas.Pragma.{Pragma}

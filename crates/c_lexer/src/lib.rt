@@ -1,8 +1,17 @@
 //! Cuts the region of a C text out between its pragma lines, and cuts the region into tokens.
 #![tactic(auto)]
 
+mod cuts;
+mod lexers;
+mod place_steps;
 mod pragmas;
 mod regions;
+mod tokens;
 
-pub use pragmas::{Pragma, pragma_of};
+pub use lexers::Lexer;
+pub use pragmas::{Pragma, is_pragma, pragma_of};
 pub use regions::{RegionFail, Span, find_region};
+pub use tokens::{BadToken, Token, TokenKind};
+
+#[cfg(test)]
+mod tests;

@@ -1,1 +1,3 @@
+mod Checks
+pub mod Points
 pub mod Systems

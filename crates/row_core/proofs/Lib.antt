@@ -1,2 +1,4 @@
+mod Checks
 pub mod Ring
 pub mod Rows
+pub mod Sparse

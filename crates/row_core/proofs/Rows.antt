@@ -1,10 +1,11 @@
 -- The value of a row is linear in the row; entries and limits, column by column.
-use Rattle.std.specs.Prelude.{ℤ, pos, ℕ, zero, suc, ◌^◌, ◌≤◌, ◌<◌, List, [], ◌∷◌, ◌++◌, length, ◌-◌, unsigned_abs, insert, swap}
-use Rattle.std.proofs.Common.{inl, inr, subst, arith}
+use Rattle.std.specs.Prelude.{ℤ, ◌+ℤ◌, ◌*ℤ◌, ◌≡◌, pos, ℕ, zero, suc, ◌^◌, ◌≤◌, ◌<◌, List, [], ◌∷◌, ◌++◌, length, drop, max, ◌+◌, ◌-◌, unsigned_abs, insert, swap}
+use Rattle.std.proofs.Common.{ap, inl, inr, ◌∙◌, subst, arith}
 use Rattle.std.proofs.Math.ListN.{set}
+use Rattle.std.proofs.Math.Seq.{drop-cons}
 use Rattle.std.proofs.lemmas.Bool.{cases_lt}
 use Rattle.std.proofs.lemmas.List.Edits.{swap_is}
-use Rattle.row_core.specs.Rows.{entry, pair_weight, combined_weight, IsHeavy, AreCoefficients}
+use Rattle.row_core.specs.Rows.{entry, combined, pair_weight, combined_weight, IsHeavy, AreCoefficients}
 pub use Rattle.row_core.specs.Linear.{dot_add, dot_scale, combined_is, dot_combined}
 
 bound_more : (row : List ℤ) (x : ℤ) → ((k : ℕ) → unsigned_abs (entry row k) < 2 ^ 127) → unsigned_abs x < 2 ^ 127
@@ -77,3 +78,21 @@ is_heavy p a q b h =
 
 pub from_heavy : (p : ℤ) (a : List ℤ) (q : ℤ) (b : List ℤ) → IsHeavy p a q b → 2 ^ 127 ≤ combined_weight p a q b
 from_heavy p a q b h = omega (arith, column_below p a q b h.0 h.1 h.2, h.3)
+
+-- column k of a combination, before the columns after it
+next_column : (row : List ℤ) (k : ℕ) → k < length row → drop k row ≡ entry row k ∷ drop (k + 1) row
+next_column row k h =
+    let next : suc k ≡ k + 1 = omega arith in
+    drop-cons row k (pos 0) h ∙ ap (λ j. entry row k ∷ drop j row) next
+
+pub combined_step : (p : ℤ) (a : List ℤ) (q : ℤ) (b : List ℤ) (k : ℕ) → k < length a → k < length b
+    → combined p (drop k a) q (drop k b) ≡ ((p *ℤ entry a k) +ℤ (q *ℤ entry b k)) ∷ combined p (drop (k + 1) a) q (drop (k + 1) b)
+combined_step p a q b k f g =
+    ap (λ r. combined p r q (drop k b)) (next_column a k f)
+    ∙ ap (λ r. combined p (entry a k ∷ drop (k + 1) a) q r) (next_column b k g)
+
+pub weight_step : (p : ℤ) (a : List ℤ) (q : ℤ) (b : List ℤ) (k : ℕ) → k < length a → k < length b
+    → combined_weight p (drop k a) q (drop k b) ≡ max (pair_weight p (entry a k) q (entry b k)) (combined_weight p (drop (k + 1) a) q (drop (k + 1) b))
+weight_step p a q b k f g =
+    ap (λ r. combined_weight p r q (drop k b)) (next_column a k f)
+    ∙ ap (λ r. combined_weight p (entry a k ∷ drop (k + 1) a) q r) (next_column b k g)

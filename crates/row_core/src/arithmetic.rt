@@ -89,8 +89,8 @@ pub fn value_sign(a: &DenseRow, k: usize) -> i8
     a.get(k).sign()
 }
 
-// The sum of two products; `None` exactly where their absolute values sum above 2^127 - 1.
-fn combine_one(p: Coeff, x: Coeff, q: Coeff, y: Coeff) -> Option<Coeff>
+/// The sum of two products; `None` exactly where their absolute values sum above 2^127 - 1.
+pub(crate) fn combine_one(p: Coeff, x: Coeff, q: Coeff, y: Coeff) -> Option<Coeff>
     ensures { MatchOption result (2 ^ 127 ≤ pair_weight p x q y)
         (λ sum. (sum ≡ (p *ℤ x) +ℤ (q *ℤ y)) × (pair_weight p x q y < 2 ^ 127)) }
 {

@@ -1,6 +1,6 @@
 //! A coefficient: an integer whose absolute value is below 2^127, so that its negative is one too.
 
-ghost use Rattle.std.specs.Prelude.{◌≡◌, ◌<◌, ◌^◌, negsuc, pos, neg_ℤ, unsigned_abs, MatchOption};
+ghost use Rattle.std.specs.Prelude.{◌≡◌, ◌<◌, ◌^◌, negsuc, pos, neg_ℤ, unsigned_abs, MatchOption, IsTrue, ◌↔◌};
 ghost use Rattle.std.specs.Int.{int_signum};
 
 use std::marker::Model;
@@ -58,6 +58,14 @@ impl Coeff {
         ensures { result ≡ neg_ℤ self }
     {
         Coeff { value: -self.value }
+    }
+
+    /// Whether the coefficient is 0.
+    pub fn is_zero(self) -> bool
+        ensures answer { IsTrue result ↔ self ≡ pos 0 }
+        ensures range { unsigned_abs self < 2 ^ 127 }
+    {
+        self.value == 0
     }
 
     /// The sign of the coefficient: -1, 0 or 1.

@@ -4,11 +4,20 @@
 mod arithmetic;
 mod coeffs;
 mod dense_rows;
+mod entries;
 mod representations;
+mod sparse_arithmetic;
+mod sparse_entries;
+mod sparse_rows;
 mod sums;
 
 pub use arithmetic::{RowFail, add_scaled, combine, negated, swap_columns, value_sign};
 pub use coeffs::Coeff;
 pub use dense_rows::DenseRow;
+pub use entries::Entry;
 pub use representations::Row;
+pub use sparse_rows::SparseRow;
 pub use sums::Sum;
+
+#[cfg(test)]
+mod tests;

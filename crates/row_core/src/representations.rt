@@ -3,6 +3,8 @@
 use crate::arithmetic::{RowFail, combine};
 use crate::coeffs::Coeff;
 use crate::dense_rows::DenseRow;
+use crate::sparse_arithmetic::combine_sparse;
+use crate::sparse_rows::SparseRow;
 use std::alloc::Global;
 use suite_base::NoMemory;
 
@@ -77,6 +79,40 @@ impl Row for DenseRow {
 
     fn copy(&self, alloc: Global) -> Result<DenseRow, NoMemory> {
         DenseRow::copy(self, alloc)
+    }
+
+    ghost linear = { λ p a q b row. dot_combination p a q b row };
+}
+
+impl Row for SparseRow {
+    ghost use Rattle.row_core.specs.Linear.{dot_combination};
+
+    ghost coefficients = { λ row. row };
+
+    fn from_coeffs(alloc: Global, coeffs: &[Coeff]) -> Result<SparseRow, NoMemory> {
+        SparseRow::from_coeffs(alloc, coeffs)
+    }
+
+    fn len(&self) -> usize {
+        SparseRow::len(self)
+    }
+
+    fn get(&self, k: usize) -> Coeff {
+        SparseRow::get(self, k)
+    }
+
+    fn combine(
+        alloc: Global,
+        p: Coeff,
+        a: &SparseRow,
+        q: Coeff,
+        b: &SparseRow,
+    ) -> Result<SparseRow, RowFail> {
+        combine_sparse(alloc, p, a, q, b)
+    }
+
+    fn copy(&self, alloc: Global) -> Result<SparseRow, NoMemory> {
+        SparseRow::copy(self, alloc)
     }
 
     ghost linear = { λ p a q b row. dot_combination p a q b row };

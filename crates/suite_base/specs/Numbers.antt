@@ -1,4 +1,4 @@
-use Rattle.std.specs.Prelude.{ℕ, ◌+◌, ◌-◌, ◌*◌, ◌^◌, Bool, true, false, ◌&&◌, ◌==◌, List, [], ◌∷◌, ℤ, pos, neg_ℤ, unsigned_abs, nat_le, nat_lt, if◌then◌else◌}
+use Rattle.std.specs.Prelude.{ℕ, ◌+◌, ◌-◌, ◌*◌, ◌^◌, ◌<◌, Bool, true, false, ◌&&◌, ◌==◌, List, [], ◌∷◌, ℤ, pos, neg_ℤ, unsigned_abs, nat_le, nat_lt, if◌then◌else◌}
 use Rattle.suite_base.specs.declared.numbers.NumberRead.{NumberRead}
 use Rattle.suite_base.specs.declared.numbers.NumberRead.TheVariants.{Value, TooLarge, NotNumber}
 
@@ -46,3 +46,9 @@ number_read word = if is_number_word word then (if is_coefficient (number_value 
 -- what the digits behind a sign, or behind none, say as a number
 abbrev pub digits_read : Bool → List ℕ → NumberRead
 digits_read negative ds = if are_digits ds then (if is_coefficient (with_sign negative (digits_after 0 ds)) then Value (with_sign negative (digits_after 0 ds)) else TooLarge) else NotNumber
+
+-- a number that was read is a coefficient
+abbrev pub IsInRange : NumberRead → Type 0
+IsInRange (Value z) = unsigned_abs z < 2 ^ 127
+IsInRange TooLarge = Unit {0}
+IsInRange NotNumber = Unit {0}

@@ -1,5 +1,5 @@
-//! What every crate of the suite stands on: lists and texts that keep their allocator, places in a
-//! text, and the one type of refusals.
+//! What every crate of the suite stands on: lists and texts that keep their allocator, lines, words
+//! and numbers of a text, the one type of refusals, and the outside: sources, sinks and files.
 #![tactic(auto)]
 
 mod file_reading;
@@ -16,6 +16,8 @@ mod places;
 mod reading;
 mod refusals;
 mod sure_fakes;
+#[cfg(test)]
+mod tests;
 mod texts;
 mod word_lists;
 mod words;
@@ -26,7 +28,7 @@ pub use line_cursors::{Lines, is_blank_byte, trimmed, trimmed_front};
 pub use lists::List;
 pub use memory::NoMemory;
 pub use memory_fakes::{MemFiles, MemSink, MemSource};
-pub use numbers::{NumberRead, is_digit_byte, read_number};
+pub use numbers::{NumberRead, are_all_digits, is_digit_byte, read_number};
 pub use outside::{Failed, Files, Sink, Source};
 pub use places::Place;
 pub use reading::{MAX_INPUT, ReadFail, read_all};

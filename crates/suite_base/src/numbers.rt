@@ -1,7 +1,7 @@
 //! Number words: an optional `-` and decimal digits, read within the range of a coefficient.
 
 ghost use Rattle.std.specs.Prelude.{◌≡◌, ◌+◌, ◌*◌, ◌-◌, ◌^◌, ◌<◌, ◌≤◌, true, false, MatchOption};
-ghost use Rattle.suite_base.specs.Numbers.{is_digit, are_digits, all_digits, digits_after, with_sign, digits_read, number_read};
+ghost use Rattle.suite_base.specs.Numbers.{is_digit, are_digits, all_digits, digits_after, with_sign, digits_read, number_read, IsInRange};
 
 /// What a word is as a number.
 #[derive(Clone, Copy, Debug, PartialEq, Eq)]
@@ -16,7 +16,8 @@ pub enum NumberRead {
 
 /// Reads a number word: an optional `-` and one or more decimal digits, leading zeros too.
 pub fn read_number(word: &[u8]) -> NumberRead
-    ensures { result ≡ number_read word.now }
+    ensures answer { result ≡ number_read word.now }
+    ensures range { IsInRange result }
 {
     match word {
         [b'-', digits @ ..] => read_digits(digits, true),
@@ -26,7 +27,8 @@ pub fn read_number(word: &[u8]) -> NumberRead
 
 /// Reads digits as a number, negated where `negative`.
 fn read_digits(digits: &[u8], negative: bool) -> NumberRead
-    ensures { result ≡ digits_read negative digits.now }
+    ensures answer { result ≡ digits_read negative digits.now }
+    ensures range { IsInRange result }
 {
     if !are_all_digits(digits) {
         return NumberRead::NotNumber;
@@ -54,7 +56,7 @@ pub fn is_digit_byte(byte: u8) -> bool
 }
 
 /// Whether `digits` are digits, and at least one.
-fn are_all_digits(digits: &[u8]) -> bool
+pub fn are_all_digits(digits: &[u8]) -> bool
     ensures { result ≡ are_digits digits.now }
 {
     if digits.is_empty() {

@@ -1,7 +1,8 @@
 //! The refusals of the whole suite, with their numbers and names.
 
-ghost use Rattle.std.specs.Prelude.{◌≡◌};
 ghost use Rattle.suite_base.specs.declared.refusals.Fail.TheVariants.{Memory};
+ghost use Rattle.std.specs.Prelude.{◌≡◌};
+ghost use Rattle.suite_base.specs.Refusals as spec;
 
 use crate::memory::NoMemory;
 use crate::places::Place;
@@ -108,4 +109,80 @@ pub enum Refusal {
     BadCertificate(u32),
     /// The text is not the one loop that this version of `clan` reads.
     OutsideFirstPath,
+}
+
+impl Refusal {
+    /// The number by which messages name the refusal, from 1. 16 is not used.
+    pub fn number(&self) -> u8
+        ensures { result ≡ spec.number_of self.now }
+    {
+        match self {
+            Refusal::TooLong => 1,
+            Refusal::NoRegion => 2,
+            Refusal::OpenRegion(_) => 3,
+            Refusal::SecondRegion(_) => 4,
+            Refusal::BadToken(_) => 5,
+            Refusal::BadSyntax(_) => 6,
+            Refusal::TooDeep(_) => 7,
+            Refusal::NotAffine(_) => 8,
+            Refusal::NameClash(_) => 9,
+            Refusal::TooManyParts(_) => 10,
+            Refusal::BadScop(_) => 11,
+            Refusal::NumberTooLarge(_) => 12,
+            Refusal::SecondScop(_) => 13,
+            Refusal::NotSolved(_) => 14,
+            Refusal::BetaClash(_, _) => 15,
+            Refusal::Limit(_, _) => 17,
+            Refusal::BadScript(_) => 18,
+            Refusal::NoBeta(_) => 19,
+            Refusal::BadLevel(_) => 20,
+            Refusal::BadArgument(_) => 21,
+            Refusal::NotALoop(_) => 22,
+            Refusal::Overflow(_, _) => 23,
+            Refusal::TooManyRows(_) => 24,
+            Refusal::Illegal(_) => 25,
+            Refusal::Different(_) => 26,
+            Refusal::NotClanForm(_) => 27,
+            Refusal::NotRecoverable(_) => 28,
+            Refusal::BadCertificate(_) => 29,
+            Refusal::OutsideFirstPath => 30,
+        }
+    }
+
+    /// The name by which messages name the refusal.
+    pub fn name(&self) -> &'static str
+        ensures { result.now ≡ spec.name_of self.now }
+    {
+        match self {
+            Refusal::TooLong => "TooLong",
+            Refusal::NoRegion => "NoRegion",
+            Refusal::OpenRegion(_) => "OpenRegion",
+            Refusal::SecondRegion(_) => "SecondRegion",
+            Refusal::BadToken(_) => "BadToken",
+            Refusal::BadSyntax(_) => "BadSyntax",
+            Refusal::TooDeep(_) => "TooDeep",
+            Refusal::NotAffine(_) => "NotAffine",
+            Refusal::NameClash(_) => "NameClash",
+            Refusal::TooManyParts(_) => "TooManyParts",
+            Refusal::BadScop(_) => "BadScop",
+            Refusal::NumberTooLarge(_) => "NumberTooLarge",
+            Refusal::SecondScop(_) => "SecondScop",
+            Refusal::NotSolved(_) => "NotSolved",
+            Refusal::BetaClash(_, _) => "BetaClash",
+            Refusal::Limit(_, _) => "Limit",
+            Refusal::BadScript(_) => "BadScript",
+            Refusal::NoBeta(_) => "NoBeta",
+            Refusal::BadLevel(_) => "BadLevel",
+            Refusal::BadArgument(_) => "BadArgument",
+            Refusal::NotALoop(_) => "NotALoop",
+            Refusal::Overflow(_, _) => "Overflow",
+            Refusal::TooManyRows(_) => "TooManyRows",
+            Refusal::Illegal(_) => "Illegal",
+            Refusal::Different(_) => "Different",
+            Refusal::NotClanForm(_) => "NotClanForm",
+            Refusal::NotRecoverable(_) => "NotRecoverable",
+            Refusal::BadCertificate(_) => "BadCertificate",
+            Refusal::OutsideFirstPath => "OutsideFirstPath",
+        }
+    }
 }

@@ -1,4 +1,4 @@
-use Rattle.std.proofs.Common.{◌≡◌, ◌<◌, List, [], ◌∷◌, ℕ, length, drop, None, sym, ◌∙◌, refl, arith, length-drop}
+use Rattle.std.proofs.Common.{◌≡◌, ◌<◌, List, [], ◌∷◌, ℕ, length, None, sym, ◌∙◌, refl, arith, length-drop}
 use Rattle.c_lexer.specs.Pragmas.{after}
 use Rattle.c_lexer.proofs.pragmas.after.Goals as goal
 

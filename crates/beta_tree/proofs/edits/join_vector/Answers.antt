@@ -1,0 +1,14 @@
+use Rattle.std.proofs.Common.{sym}
+use Rattle.beta_tree.specs.Edits.{join_loops}
+use Rattle.beta_tree.proofs.Places.{below_other}
+use Rattle.beta_tree.proofs.Steps.{below_some, fit_below}
+use Rattle.beta_tree.proofs.edits.join_vector.Goals as goal
+
+pub join_rest-requires : goal.join_rest-requires
+join_rest-requires c = fit_below c.args.siblings.now (join_loops c.args.p c.args.count) c.args.vector.now _ (sym c.in-Some.ensures) c.requires
+
+pub returns-in-Some : goal.returns-in-Some
+returns-in-Some c = rw (below_some c.args.siblings.now (join_loops c.args.p c.args.count) c.args.vector.now _ (sym c.in-Some.ensures)) c.join_rest.ensures
+
+pub returns-in-None : goal.returns-in-None
+returns-in-None c = rw (below_other c.args.siblings.now (join_loops c.args.p c.args.count) c.args.vector.now (sym c.in-None.ensures)) c.copied.ensures

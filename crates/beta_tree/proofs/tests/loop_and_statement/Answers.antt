@@ -1,0 +1,8 @@
+use Rattle.std.proofs.Common.{◌≡◌, rules}
+use Rattle.beta_tree.proofs.Samples.{sample, sample_free}
+use Rattle.beta_tree.proofs.tests.loop_and_statement.Goals as goal
+
+pub dense-requires-clause-free : goal.dense-requires-clause-free
+dense-requires-clause-free c =
+    let is : c.push-4.new.self ≡ sample = search rules in
+    rw is sample_free

@@ -1,0 +1,102 @@
+//! What is asked of a list of vectors before an edit.
+
+ghost use Rattle.std.specs.Prelude.{◌≡◌, [], ◌∷◌, ◌++◌, length, not, MatchOption};
+ghost use Rattle.std.specs.Option.{option_copied};
+ghost use Rattle.beta_tree.specs.Vectors.{after as what_follows, no_statement, is_leaf as has_leaf, is_loop as has_loop, children_of, IsDense};
+ghost use Rattle.beta_tree.specs.Edits.{is_permutation_of, has_all_below};
+ghost use Rattle.std.specs.List.{list_any};
+ghost use Rattle.std.proofs.Math.Dec.{eqb};
+
+use suite_base::List;
+
+/// What follows `prefix` in `vector`; `None` where `vector` doesn't begin with it.
+pub fn after<'a>(prefix: &[u32], vector: &'a [u32]) -> Option<&'a [u32]>
+    ensures { option_copied result ≡ what_follows prefix.now vector.now }
+{
+    vector.strip_prefix(prefix)
+}
+
+/// What stands before the last entry of `prefix`, and that entry; `None` for the empty one.
+pub fn split_prefix(prefix: &[u32]) -> Option<(&[u32], u32)>
+    ensures { MatchOption result (prefix.now ≡ []) (λ parts. prefix.now ≡ parts.0.now ++ parts.1 ∷ []) }
+{
+    match prefix {
+        [siblings @ .., last] => Some((siblings, *last)),
+        [] => None,
+    }
+}
+
+/// Whether a vector begins with `prefix`.
+pub fn is_under(vectors: &List<List<u32>>, prefix: &[u32]) -> bool
+    ensures { result ≡ not (no_statement prefix.now vectors.now) }
+{
+    for vector in vectors.as_slice() {
+        if after(prefix, vector.as_slice()).is_some() {
+            return true;
+        }
+    }
+    false
+}
+
+/// Whether a vector equals `prefix`.
+pub fn is_leaf(vectors: &List<List<u32>>, prefix: &[u32]) -> bool
+    ensures { result ≡ has_leaf prefix.now vectors.now }
+{
+    for vector in vectors.as_slice() {
+        if let Some([]) = after(prefix, vector.as_slice()) {
+            return true;
+        }
+    }
+    false
+}
+
+/// Whether `prefix` is a loop: it isn't empty, vectors begin with it and none equals it.
+pub fn is_loop(vectors: &List<List<u32>>, prefix: &[u32]) -> bool
+    ensures { result ≡ has_loop prefix.now vectors.now }
+{
+    !prefix.is_empty() && is_under(vectors, prefix) && !is_leaf(vectors, prefix)
+}
+
+/// The number of children of `prefix`. Since they are numbered without gaps it is one more than the
+/// greatest number of a child.
+pub fn count_children(vectors: &List<List<u32>>, prefix: &[u32]) -> usize
+    requires { IsDense vectors.now }
+    ensures { result ≡ children_of prefix.now vectors.now }
+{
+    let mut count = 0;
+    for vector in vectors.as_slice() {
+        if let Some([child, ..]) = after(prefix, vector.as_slice()) {
+            count = count.max(*child as usize + 1);
+        }
+    }
+    count
+}
+
+/// Whether `order` has each number below `count` once.
+pub fn is_permutation(order: &[u32], count: usize) -> bool
+    ensures { result ≡ is_permutation_of count order.now }
+{
+    if order.len() != count {
+        return false;
+    }
+    has_all(order)
+}
+
+/// Whether each number below the length of `order` is in it.
+fn has_all(order: &[u32]) -> bool
+    ensures { result ≡ has_all_below (length order.now) order.now }
+{
+    for k in 0..order.len() {
+        if !has(order, k) {
+            return false;
+        }
+    }
+    true
+}
+
+/// Whether `number` is in `order`.
+fn has(order: &[u32], number: usize) -> bool
+    ensures { result ≡ list_any (eqb number) order.now }
+{
+    order.iter().any(|entry| number == *entry as usize)
+}

@@ -1,0 +1,9 @@
+use Rattle.std.proofs.Common.{rules, sym, ◌∙◌}
+use denote.Enum.Bare.{same_true}
+use Rattle.c_parser.specs.contracts.symbols.Symbol.{the_type}
+use Rattle.c_parser.specs.Symbols.{same_symbol}
+use Rattle.c_parser.proofs.symbols.same_symbol.Goals as goal
+
+pub returns-clause-value : goal.returns-clause-value
+unfolding same_symbol
+returns-clause-value c = search rules

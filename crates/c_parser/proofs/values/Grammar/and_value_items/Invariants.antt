@@ -1,0 +1,7 @@
+use Rattle.std.proofs.Common.{◌≡◌, ◌-◌, []}
+use Rattle.c_parser.specs.declared.symbols.Symbol.TheVariants as s
+use Rattle.c_parser.specs.Values.{separated_from, separated, below, equal}
+use Rattle.c_parser.proofs.values.Grammar.and_value_items.Given as goal
+
+abbrev pub invariant-loop-turn : goal.invariant-loop-turn
+invariant-loop-turn g l = separated s.And (equal l.nests (below l.nests)) l.fn.tokens ≡ separated_from s.And (equal l.nests (below l.nests)) (l._turn-end - l._turn) l.items l.tokens

@@ -1,0 +1,19 @@
+//! Parses the region of a C text into a tree of spans over its source.
+#![tactic(auto)]
+
+mod heads;
+mod regions;
+mod signs;
+mod statements;
+mod stops;
+mod symbols;
+mod tokens;
+mod tree;
+mod values;
+
+pub use regions::parse_region;
+pub use tree::{
+    And, Arms, Assign, AssignSign, Branch, Compare, Equal, EqualSign, Loop, Node, Or, Piece,
+    Primary, Product, ProductSign, Region, Rel, Step, Sum, SumSign, Target, Unary, UnarySign,
+    Value,
+};

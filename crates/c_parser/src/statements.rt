@@ -1,0 +1,202 @@
+//! Statements: one function for each production of the grammar.
+
+ghost use Rattle.std.specs.Prelude.{◌≡◌, ◌<◌, ◌≤◌, ◌^◌};
+ghost use Rattle.c_parser.specs.Input.{Reads};
+ghost use Rattle.c_parser.specs.Statements as spec;
+
+use crate::heads::{assigned, loop_head, open_round};
+use crate::stops::Stop;
+use crate::symbols::{Symbol, same_symbol};
+use crate::tokens::Tokens;
+use crate::tree::{Assign, Branch, Loop, Node, Piece};
+use crate::values::{inner_value, target, value};
+use sqlite_items::{Boxed, Items};
+use std::alloc::Global;
+use suite_base::List;
+
+/// How many nests and how many loops may be open at once.
+pub const MAX_NESTS: usize = 64;
+
+pub const MAX_LOOPS: usize = 12;
+
+#[tactic(auto, unfolding(crate::specs::Statements::assign))]
+fn assign(alloc: Global, tokens: &mut Tokens<'_>, nests: usize) -> Result<Assign, Stop>
+    requires { nests < 2 ^ 32 }
+    ensures { Reads (spec.assign nests tokens.old) result tokens.new }
+{
+    let from = tokens.position();
+    let target = target(alloc, tokens, nests)?;
+    let sign = assigned(tokens)?;
+    let value = value(alloc, tokens, nests)?;
+    let to = tokens.position();
+    tokens.expect(Symbol::Semicolon)?;
+    let body = Piece { from, to };
+    Ok(Assign {
+        body,
+        target,
+        sign,
+        value,
+    })
+}
+
+fn begins_statement(symbol: Symbol) -> bool
+    ensures { result ≡ spec.begins_statement symbol }
+{
+    match symbol {
+        Symbol::For | Symbol::If | Symbol::OpenCurly | Symbol::Semicolon | Symbol::Name => true,
+        _ => false,
+    }
+}
+
+#[cycle(statements)]
+fn for_loop(
+    alloc: Global,
+    tokens: &mut Tokens<'_>,
+    nests: usize,
+    loops: usize,
+) -> Result<Node, Stop>
+    requires { nests < 2 ^ 32 }
+    ensures { Reads (spec.for_loop nests loops (spec.body nests loops) tokens.old) result tokens.new }
+{
+    tokens.open_loop(loops)?;
+    tokens.take();
+    let head = loop_head(alloc, tokens, nests)?;
+    let body = statement(alloc, tokens, nests, loops - 1)?;
+    let made = Loop {
+        name: head.name,
+        start: head.start,
+        rel: head.rel,
+        bound: head.bound,
+        step: head.step,
+        step_at: head.step_at,
+        body,
+    };
+    Ok(Node::For(Boxed::new(alloc, made)?))
+}
+
+/// A branch opens a nest with its first token.
+#[cycle(statements)]
+fn branch(alloc: Global, tokens: &mut Tokens<'_>, nests: usize, loops: usize) -> Result<Node, Stop>
+    requires { nests < 2 ^ 32 }
+    ensures { Reads (spec.branch nests (spec.inner nests loops) tokens.old) result tokens.new }
+{
+    if !begins_statement(tokens.peek()) {
+        return Err(tokens.refuse());
+    }
+    tokens.open_nest(nests)?;
+    statement(alloc, tokens, nests - 1, loops)
+}
+
+#[cycle(statements)]
+fn else_branch(
+    alloc: Global,
+    tokens: &mut Tokens<'_>,
+    nests: usize,
+    loops: usize,
+) -> Result<Option<Node>, Stop>
+    requires { nests < 2 ^ 32 }
+    ensures { Reads (spec.else_branch nests (spec.inner nests loops) tokens.old) result tokens.new }
+{
+    if !tokens.eat(Symbol::Else) {
+        return Ok(None);
+    }
+    let other = branch(alloc, tokens, nests, loops)?;
+    Ok(Some(other))
+}
+
+#[cycle(statements)]
+fn if_branch(
+    alloc: Global,
+    tokens: &mut Tokens<'_>,
+    nests: usize,
+    loops: usize,
+) -> Result<Node, Stop>
+    requires { nests < 2 ^ 32 }
+    ensures { Reads (spec.if_branch nests (spec.inner nests loops) tokens.old) result tokens.new }
+{
+    tokens.take();
+    open_round(tokens, nests)?;
+    let condition = inner_value(alloc, tokens, nests)?;
+    tokens.expect(Symbol::CloseRound)?;
+    let then = branch(alloc, tokens, nests, loops)?;
+    let other = else_branch(alloc, tokens, nests, loops)?;
+    let made = Branch {
+        condition,
+        then,
+        other,
+    };
+    Ok(Node::If(Boxed::new(alloc, made)?))
+}
+
+#[cycle(statements)]
+fn block_nodes(
+    alloc: Global,
+    tokens: &mut Tokens<'_>,
+    nests: usize,
+    loops: usize,
+) -> Result<Items<Node>, Stop>
+    requires some { 0 < nests }
+    requires small { nests < 2 ^ 32 }
+    ensures { Reads (spec.block_nodes (spec.inner nests loops) tokens.old) result tokens.new }
+{
+    let mut nodes = Items::new(alloc);
+    for _turn in 0..tokens.left() {
+        if tokens.eat(Symbol::CloseCurly) {
+            return Ok(nodes);
+        }
+        let next = statement(alloc, tokens, nests - 1, loops)?;
+        nodes.push(next)?;
+    }
+    Err(tokens.refuse())
+}
+
+#[cycle(statements)]
+fn block(alloc: Global, tokens: &mut Tokens<'_>, nests: usize, loops: usize) -> Result<Node, Stop>
+    requires { nests < 2 ^ 32 }
+    ensures { Reads (spec.block nests (spec.inner nests loops) tokens.old) result tokens.new }
+{
+    tokens.open_nest(nests)?;
+    tokens.take();
+    let nodes = block_nodes(alloc, tokens, nests, loops)?;
+    Ok(Node::Block(nodes))
+}
+
+/// A statement in which so many nests and loops may still be opened.
+#[cycle(statements)]
+pub fn statement(
+    alloc: Global,
+    tokens: &mut Tokens<'_>,
+    nests: usize,
+    loops: usize,
+) -> Result<Node, Stop>
+    requires { nests < 2 ^ 32 }
+    ensures { Reads (spec.statement nests loops tokens.old) result tokens.new }
+{
+    match tokens.peek() {
+        Symbol::For => for_loop(alloc, tokens, nests, loops),
+        Symbol::If => if_branch(alloc, tokens, nests, loops),
+        Symbol::OpenCurly => block(alloc, tokens, nests, loops),
+        Symbol::Semicolon => {
+            tokens.take();
+            Ok(Node::Empty)
+        }
+        Symbol::Name => Ok(Node::Assign(assign(alloc, tokens, nests)?)),
+        _ => Err(tokens.refuse()),
+    }
+}
+
+/// All statements of a region.
+pub fn region(alloc: Global, tokens: &mut Tokens<'_>) -> Result<List<Node>, Stop>
+    ensures { Reads (spec.region tokens.old) result tokens.new }
+{
+    let mut nodes = List::new(alloc);
+    for _turn in 0..tokens.left() {
+        if same_symbol(tokens.peek(), Symbol::End) {
+            return Ok(nodes);
+        }
+        let next = statement(alloc, tokens, MAX_NESTS, MAX_LOOPS)?;
+        nodes.push(next)?;
+    }
+    tokens.expect(Symbol::End)?;
+    Ok(nodes)
+}

@@ -1,0 +1,16 @@
+pub mod Tests
+pub mod Quotients
+pub mod AllRows
+pub mod Algebra
+pub mod Derived
+pub mod Lines
+pub mod Moves
+pub mod Points
+pub mod Back
+pub mod Started
+pub mod Lengths
+pub mod Whole
+pub mod CodeSteps
+pub mod Widths
+pub mod Leads
+pub mod ColumnOrder

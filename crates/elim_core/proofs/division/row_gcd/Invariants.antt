@@ -1,0 +1,9 @@
+use Rattle.std.proofs.Common.{◌≡◌, ◌<◌, ◌^◌, drop}
+use Rattle.elim_core.specs.Gcd.{gcd_onto}
+use Rattle.elim_core.proofs.division.row_gcd.Given as goal
+
+abbrev pub invariant-loop-k : goal.invariant-loop-k
+invariant-loop-k g l = record {
+  left : gcd_onto l.divisor (drop l.k (g.R.Row.coefficients l.row)) ≡ gcd_onto 0 (g.R.Row.coefficients l.row);
+  range : l.divisor < 2 ^ 127;
+}

@@ -1,0 +1,9 @@
+use Rattle.std.proofs.Common.{◌≡◌, ◌++◌, take, drop}
+use Rattle.elim_core.specs.Elimination.{first_equality, without_equality}
+use Rattle.elim_core.proofs.substitutions.find_equality.Given as goal
+
+abbrev pub invariant-loop-k : goal.invariant-loop-k
+invariant-loop-k g l = record {
+  left : first_equality (drop l.k l.rows) ≡ first_equality l.rows;
+  rest : take l.k l.rows ++ without_equality (drop l.k l.rows) ≡ without_equality l.rows;
+}

@@ -1,0 +1,5 @@
+pub mod Gcd
+pub mod Elimination
+pub mod RowLists
+pub mod Causes
+pub mod Peaks

@@ -1,0 +1,100 @@
+//! The decision whether a system has a rational point, exact both ways.
+
+ghost use Rattle.std.specs.Prelude.{◌≡◌, ◌<◌, ◌≤◌, ◌+◌, ◌^◌, length, Some, IfOk, IfErr};
+ghost use Rattle.relation_core.specs.Systems.{columns};
+ghost use Rattle.farkas_cert.specs.Certificates.{Valid};
+ghost use Rattle.elim_core.specs.Elimination.{started, Below};
+ghost use Rattle.elim_core.specs.RowLists.{AllRows, Wide};
+ghost use Rattle.elim_core.specs.Peaks.{column_order, stated, peak, IsRight};
+
+use crate::orders::column_order;
+use crate::phases::from_equalities;
+use crate::refutations::look;
+use crate::starts::start;
+use crate::tidying::tidy;
+use crate::verdicts::{ElimFail, Verdict};
+use farkas_cert::{Certificate, TooHeavy, check};
+use relation_core::Part;
+use row_core::{DenseRow, Row};
+use std::alloc::Global;
+
+/// Decides `system` over dense rows, as `decide_by` does.
+pub fn decide(alloc: Global, system: &Part) -> Result<Verdict, ElimFail>
+    ensures right { IfOk result (λ verdict. IsRight system.now verdict) }
+    ensures overflow { IfErr result (λ fail. fail ≡ ElimFail.Overflow → 2 ^ 127 ≤ (peak system.now).weight) }
+    ensures rows { IfErr result (λ fail. fail ≡ ElimFail.TooManyRows → 16384 < (peak system.now).rows) }
+{
+    decide_by::<DenseRow>(alloc, system)
+}
+
+/// Decides whether integers and a factor of at least 1 for the constants meet every row of
+/// `system`, by the stated elimination over rows of representation `R`. `HasPoint` comes only where
+/// they exist. `Empty` comes only where none do, with a valid certificate for which `check` answers
+/// true. `Overflow` comes only where the weight of the system's peak passes 2^127 - 1, and
+/// `TooManyRows` only where its row count passes 16,384.
+pub fn decide_by<R: Row>(alloc: Global, system: &Part) -> Result<Verdict, ElimFail>
+    ensures right { IfOk result (λ verdict. IsRight system.now verdict) }
+    ensures overflow { IfErr result (λ fail. fail ≡ ElimFail.Overflow → 2 ^ 127 ≤ (peak system.now).weight) }
+    ensures rows { IfErr result (λ fail. fail ≡ ElimFail.TooManyRows → 16384 < (peak system.now).rows) }
+{
+    match eliminate::<R>(alloc, system) {
+        Err(fail) => Err(fail),
+        Ok(None) => Ok(Verdict::HasPoint),
+        Ok(Some(certificate)) => confirm(system, certificate),
+    }
+}
+
+// The verdict of the certificate that the elimination ends with, where its check is not too heavy.
+fn confirm(system: &Part, certificate: Certificate) -> Result<Verdict, ElimFail>
+    requires valid { Valid (columns system.now.shape) system.now.rows certificate }
+    requires found { (stated system.now).refutation ≡ Some certificate }
+    ensures right { IfOk result (λ verdict. IsRight system.now verdict) }
+    ensures overflow { IfErr result (λ fail. fail ≡ ElimFail.Overflow → 2 ^ 127 ≤ (peak system.now).weight) }
+    ensures rows { IfErr result (λ fail. fail ≡ ElimFail.TooManyRows → 16384 < (peak system.now).rows) }
+{
+    match check(system, &certificate) {
+        Err(TooHeavy) => Err(ElimFail::Overflow),
+        Ok(_) => Ok(Verdict::Empty(certificate)),
+    }
+}
+
+// The certificate that the stated elimination ends with, if any.
+fn eliminate<R: Row>(alloc: Global, system: &Part) -> Result<Option<Certificate>, ElimFail>
+    ensures ok { IfOk result (λ found. found ≡ (stated system.now).refutation) }
+    ensures wide { AllRows (Wide (columns system.now.shape + 1)) system.now.rows }
+    ensures overflow { IfErr result (λ fail. fail ≡ ElimFail.Overflow → 2 ^ 127 ≤ (stated system.now).weight) }
+    ensures rows { IfErr result (λ fail. fail ≡ ElimFail.TooManyRows → 16384 < (stated system.now).count) }
+{
+    let n = variable_count(system);
+    let count = row_count(system);
+    let width = n + 1 + count;
+    let columns = column_order(alloc, system)?;
+    let rows = start::<R>(alloc, system)?;
+    match look(alloc, n, width, rows.as_slice())? {
+        Some(certificate) => return Ok(Some(certificate)),
+        None => {}
+    }
+    let tidied = tidy(alloc, n, width, rows)?;
+    from_equalities(alloc, n, width, columns.as_slice(), count, tidied)
+}
+
+// The number of variables.
+fn variable_count(system: &Part) -> usize
+    ensures value { result ≡ columns system.now.shape }
+    ensures range { result ≤ 262144 }
+    ensures order { Below (columns system.now.shape) (column_order system.now.shape) }
+{
+    let _limits = system.shape();
+    system.width() - 1
+}
+
+// The number of rows, each of which has an entry for each variable and the constant.
+fn row_count(system: &Part) -> usize
+    ensures value { result ≡ length system.now.rows }
+    ensures range { result < 2 ^ 63 }
+    ensures wide { AllRows (Wide (columns system.now.shape + 1)) system.now.rows }
+    ensures started { AllRows (Wide (columns system.now.shape + 1 + length system.now.rows)) (started system.now.rows) }
+{
+    let _form = system.row_count();
+    system.rows().len()
+}

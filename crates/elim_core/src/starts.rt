@@ -1,0 +1,64 @@
+//! The working rows with which the elimination begins: each row of the system with the multiplier 1
+//! at its own place.
+
+ghost use Rattle.std.specs.Prelude.{◌≡◌, ◌<◌, ◌≤◌, ◌+◌, ◌-◌, ◌++◌, ◌∷◌, [], pos, replicate, length, IfOk, OnOk};
+ghost use Rattle.relation_core.specs.Systems.{row_at, width};
+ghost use Rattle.elim_core.specs.Elimination.{unit, started_from, started};
+
+use crate::working_rows::WorkingRow;
+use relation_core::Part;
+use row_core::{Coeff, Row};
+use std::alloc::Global;
+use suite_base::NoMemory;
+
+/// The rows of `system`, each with its multipliers behind it.
+pub fn start<R: Row>(alloc: Global, system: &Part) -> Result<Vec<WorkingRow<R>>, NoMemory>
+    ensures { IfOk result (λ rows. rows.items ≡ started system.now.rows) }
+{
+    let mut rows = Vec::new(alloc);
+    for i in 0..system.row_count() {
+        let cells = starting_cells(alloc, system, i)?;
+        let row = R::from_coeffs(alloc, cells.as_slice())?;
+        rows.push(WorkingRow::new(system.kind(i), row))?;
+    }
+    Ok(rows)
+}
+
+// The entries of row `i`, and behind them its multipliers.
+fn starting_cells(alloc: Global, system: &Part, i: usize) -> Result<Vec<Coeff>, NoMemory>
+    requires { i < length system.now.rows }
+    ensures { IfOk result (λ cells. cells.items ≡ (row_at system.now.rows i).entries ++ unit i (length system.now.rows)) }
+{
+    let mut cells = row_entries(alloc, system, i)?;
+    push_unit(&mut cells, i, system.row_count())?;
+    Ok(cells)
+}
+
+// The entries of row `i`.
+fn row_entries(alloc: Global, system: &Part, i: usize) -> Result<Vec<Coeff>, NoMemory>
+    requires { i < length system.now.rows }
+    ensures { IfOk result (λ cells. cells.items ≡ (row_at system.now.rows i).entries) }
+{
+    let row = &system.rows()[i];
+    Ok(Vec::from_slice(alloc, row.entries.as_slice())?)
+}
+
+// Appends `count` multipliers, which are 0 but for a 1 at place `i`.
+fn push_unit(cells: &mut Vec<Coeff>, i: usize, count: usize) -> Result<(), NoMemory>
+    requires { i < count }
+    ensures { OnOk result (cells.new.items ≡ cells.old.items ++ unit i count) }
+{
+    push_zeros(cells, i)?;
+    cells.push(Coeff::ONE)?;
+    push_zeros(cells, count - i - 1)
+}
+
+// Appends zeros.
+fn push_zeros(cells: &mut Vec<Coeff>, count: usize) -> Result<(), NoMemory>
+    ensures { OnOk result (cells.new.items ≡ cells.old.items ++ replicate count (pos 0)) }
+{
+    for _ in 0..count {
+        cells.push(Coeff::ZERO)?;
+    }
+    Ok(())
+}

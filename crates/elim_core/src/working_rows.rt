@@ -1,0 +1,140 @@
+//! A working row of the elimination: the entries of a row, its constant, and behind them one
+//! multiplier for each row of the system.
+
+ghost use Rattle.std.specs.Prelude.{◌≡◌, ◌<◌, ◌≤◌, ◌+◌, ◌^◌, pos, length, take, true, IfOk, IfErr, OnOk, IsTrue};
+ghost use Rattle.row_core.specs.Rows.{entry, combined, combined_weight};
+ghost use Rattle.elim_core.specs.Gcd.{divided};
+ghost use Rattle.elim_core.specs.Elimination.{is_equal, is_constant, is_contradiction, fails, last_variable};
+
+use crate::division::divided;
+use crate::signs::{is_negative, is_zero};
+use crate::verdicts::{ElimFail, failed};
+use relation_core::RowKind;
+use row_core::{Coeff, Row};
+use std::alloc::Global;
+use std::marker::Model;
+
+/// A row of the elimination, in one representation. Contracts see its kind and its entries.
+#[derive(Drop)]
+pub struct WorkingRow<R: Row> {
+    kind: RowKind,
+    row: R,
+}
+
+impl<R: Row> Model for WorkingRow<R> {
+    ghost use Rattle.relation_core.specs.declared.part_rows.PartRow.{PartRow};
+
+    ghost Value = { PartRow };
+
+    ghost view = { λ w. record { kind = w.kind; entries = R.coefficients w.row } };
+}
+
+impl<R: Row> WorkingRow<R> {
+    pub fn new(kind: RowKind, row: R) -> WorkingRow<R>
+        ensures { result ≡ record { kind = kind; entries = R.coefficients row } }
+    {
+        WorkingRow { kind, row }
+    }
+
+    pub fn kind(&self) -> RowKind
+        ensures { result ≡ self.now.kind }
+    {
+        self.kind
+    }
+
+    pub fn is_equality(&self) -> bool
+        ensures { result ≡ is_equal self.now.kind }
+    {
+        match self.kind {
+            RowKind::Equal => true,
+            RowKind::AtLeast => false,
+        }
+    }
+
+    pub fn len(&self) -> usize
+        ensures { result ≡ length self.now.entries }
+    {
+        self.row.len()
+    }
+
+    pub fn entry(&self, k: usize) -> Coeff
+        requires { k < length self.now.entries }
+        ensures { result ≡ entry self.now.entries k }
+    {
+        self.row.get(k)
+    }
+
+    /// The row `p a + q b` of this kind, divided by the greatest common divisor of its entries.
+    pub fn combined(
+        alloc: Global,
+        kind: RowKind,
+        p: Coeff,
+        a: &WorkingRow<R>,
+        q: Coeff,
+        b: &WorkingRow<R>,
+    ) -> Result<WorkingRow<R>, ElimFail>
+        requires { length a.now.entries ≡ length b.now.entries }
+        ensures ok { IfOk result (λ w. w ≡ record { kind = kind; entries = divided (combined p a.now.entries q b.now.entries) }) }
+        ensures overflow { IfErr result (λ fail. fail ≡ ElimFail.Overflow → 2 ^ 127 ≤ combined_weight p a.now.entries q b.now.entries) }
+        ensures rows { IfErr result (λ fail. ¬ (fail ≡ ElimFail.TooManyRows)) }
+    {
+        match R::combine(alloc, p, &a.row, q, &b.row) {
+            Err(fail) => Err(failed(fail)),
+            Ok(whole) => {
+                let row = divided(alloc, whole)?;
+                Ok(WorkingRow { kind, row })
+            }
+        }
+    }
+}
+
+/// Whether the first `n` entries are 0.
+pub fn is_constant<R: Row>(w: &WorkingRow<R>, n: usize) -> bool
+    requires { n ≤ length w.now.entries }
+    ensures { result ≡ is_constant n w.now }
+{
+    for k in 0..n {
+        if !is_zero(w.entry(k)) {
+            return false;
+        }
+    }
+    true
+}
+
+/// Whether the row has no variable and its constant fails.
+pub fn is_contradiction<R: Row>(w: &WorkingRow<R>, n: usize) -> bool
+    requires { n < length w.now.entries }
+    ensures { result ≡ is_contradiction n w.now }
+{
+    if is_constant(w, n) {
+        fails(w.kind(), w.entry(n))
+    } else {
+        false
+    }
+}
+
+// Whether a row of this kind fails where its value is `c`.
+fn fails(kind: RowKind, c: Coeff) -> bool
+    ensures { result ≡ fails kind c }
+{
+    match kind {
+        RowKind::Equal => !is_zero(c),
+        RowKind::AtLeast => is_negative(c),
+    }
+}
+
+/// The last of the first `n` places whose entry isn't 0; 0 where there is none.
+pub fn last_variable<R: Row>(w: &WorkingRow<R>, n: usize) -> usize
+    requires { n ≤ length w.now.entries }
+    ensures value { result ≡ last_variable n w.now.entries }
+    ensures range { result ≤ n }
+{
+    let mut k = n;
+    while k > 0 {
+        k -= 1;
+        if !is_zero(w.entry(k)) {
+            return k;
+        }
+    }
+    0
+}

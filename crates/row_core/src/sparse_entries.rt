@@ -1,0 +1,40 @@
+//! Entries of a sparse row, looked up by their place.
+
+ghost use Rattle.std.specs.Prelude.{◌≡◌, length};
+ghost use Rattle.row_core.specs.Sparse.{value_at, past, value_among as found};
+
+use crate::coeffs::Coeff;
+use crate::entries::Entry;
+
+/// The entries that have not been taken yet.
+#[derive(Drop)]
+pub struct Rest<'a> {
+    pub entries: &'a [Entry],
+}
+
+/// Takes the first entry where it stands at `place`, and answers its value; else answers 0.
+pub fn take_at(rest: &mut Rest<'_>, place: usize) -> Coeff
+    ensures answer { result ≡ value_at place rest.old.entries.now }
+    ensures rest { rest.new.entries.now ≡ past place rest.old.entries.now }
+{
+    match rest.entries {
+        [first, others @ ..] if first.place == place => {
+            let value = first.value;
+            rest.entries = others;
+            value
+        }
+        _ => Coeff::ZERO,
+    }
+}
+
+/// The value of the first entry at `place`; 0 where there is none.
+pub fn value_among(entries: &[Entry], place: usize) -> Coeff
+    ensures { result ≡ found place entries.now }
+{
+    for entry in entries {
+        if entry.place == place {
+            return entry.value;
+        }
+    }
+    Coeff::ZERO
+}

@@ -1,0 +1,5 @@
+pub mod TextCuts
+pub mod FirstForms
+pub mod WordLists
+pub mod ShortNumbers
+pub mod RunAnswers

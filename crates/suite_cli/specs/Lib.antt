@@ -1,0 +1,6 @@
+pub mod Commands
+pub mod FirstForm
+pub mod Messages
+pub mod Names
+pub mod Pieces
+pub mod Answers

@@ -1,0 +1,71 @@
+//! Standard streams as a source and as sinks: the trusted edge, which tells no bytes.
+
+ghost use Rattle.std.specs.Prelude.{◌≡◌, ℕ, None};
+
+use std::io::{Read, Write};
+use suite_base::{Failed, Sink, Source};
+
+/// A reader as a source. It counts each error as a fault, and tells no bytes.
+#[derive(Drop)]
+pub struct RealInput<R: Read + Drop> {
+    reader: R,
+    faults: u64,
+}
+
+impl<R: Read + Drop> RealInput<R> {
+    /// The source of this reader, without faults so far.
+    pub fn new(reader: R) -> RealInput<R>
+        ensures { ⟦<RealInput<R> as Source>⟧.faults result ≡ 0 }
+    {
+        RealInput { reader, faults: 0 }
+    }
+}
+
+impl<R: Read + Drop> Source for RealInput<R> {
+    ghost left = { λ _. None };
+
+    ghost faults = { λ s. s.faults };
+
+    fn read(&mut self, buf: &mut [u8]) -> Result<usize, Failed> {
+        match self.reader.read(buf) {
+            Ok(n) => Ok(n),
+            Err(_) => {
+                self.faults = self.faults.saturating_add(1);
+                Err(Failed)
+            }
+        }
+    }
+}
+
+/// A writer as a sink. It counts each error as a fault, and an answer of 0 for a piece that is not
+/// empty too; it tells no bytes.
+#[derive(Drop)]
+pub struct RealOutput<W: Write + Drop> {
+    writer: W,
+    faults: u64,
+}
+
+impl<W: Write + Drop> RealOutput<W> {
+    /// The sink of this writer, without faults so far.
+    pub fn new(writer: W) -> RealOutput<W>
+        ensures { ⟦<RealOutput<W> as Sink>⟧.faults result ≡ 0 }
+    {
+        RealOutput { writer, faults: 0 }
+    }
+}
+
+impl<W: Write + Drop> Sink for RealOutput<W> {
+    ghost written = { λ _. None };
+
+    ghost faults = { λ s. s.faults };
+
+    fn write(&mut self, piece: &[u8]) -> Result<usize, Failed> {
+        match self.writer.write(piece) {
+            Ok(n) if n > 0 || piece.is_empty() => Ok(n),
+            _ => {
+                self.faults = self.faults.saturating_add(1);
+                Err(Failed)
+            }
+        }
+    }
+}
