@@ -9,3 +9,4 @@ pub mod Meaning
 pub mod Theorems
 pub mod SolvedForm
 pub mod Assembly
+pub mod OneLoops
