@@ -1,5 +1,4 @@
 pub mod RowLists
-pub mod OneLoopForms
 pub mod Orders
 pub mod Reordering
 pub mod Memories
@@ -8,5 +7,6 @@ pub mod Stamps
 pub mod RunLaws
 pub mod SolvedForms
 pub mod SolvedShapes
+pub mod Assemblies
 mod LayoutChecks
 mod Checks

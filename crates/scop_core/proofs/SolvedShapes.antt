@@ -1,9 +1,9 @@
 -- The sizes and ranges of what a part in solved form gives.
 use Rattle.std.proofs.Common.{◌≡◌, ℕ, zero, suc, ◌+◌, ◌-◌, ◌*◌, ◌<◌, ◌≤◌, ◌^◌, Bool, true, false, ◌&&◌, List, [], ◌∷◌, ◌++◌, length, take, drop, get_or, ℤ, pos, negsuc, ◌+ℤ◌, neg_ℤ, unsigned_abs, refl, ap, sym, ◌∙◌, arith, add-one, inl, inr, ◌⊎◌}
-use Rattle.std.specs.Prelude.{slice_range}
+use Rattle.std.specs.Prelude.{slice_range, ◌==◌, nat_le, ◌%◌}
+use Rattle.std.proofs.lemmas.Bool.Decides.{nat_tests, Decides-int_eq}
 use Rattle.std.specs.Ordering.{int_eq}
 use Rattle.std.proofs.lemmas.List.{get_or-take, get_or-drop}
-use Rattle.std.proofs.lemmas.Bool.Decides.{Decides-int_eq}
 use Rattle.row_core.specs.Rows.{entry}
 use Rattle.relation_core.specs.Systems.{System, columns, width}
 use Rattle.relation_core.specs.declared.shapes.Shape.{Shape}
@@ -11,9 +11,9 @@ use Rattle.relation_core.specs.declared.part_rows.PartRow.{PartRow}
 use Rattle.std.proofs.lemmas.Int.{ints}
 use Rattle.scop_core.specs.declared.affines.Affine.{Affine}
 use Rattle.scop_core.specs.SolvedRows.{PairFits}
-use Rattle.scop_core.specs.SolvedForm.{each_below, cleared, is_pair, local_column, affine_of, floor_at, size_at, has_floor, low_row_of, high_row_of}
+use Rattle.scop_core.specs.SolvedForm.{each_below, cleared, is_pair, local_column, affine_of, floor_at, size_at, has_floor, low_row_of, high_row_of, is_scattering, is_access}
 
-both : (a b : Bool) → (a && b) ≡ true → (a ≡ true) × (b ≡ true)
+pub both : (a b : Bool) → (a && b) ≡ true → (a ≡ true) × (b ≡ true)
 both true b h = (refl, h)
 both false b h = cc
 
@@ -26,6 +26,24 @@ below_or_last (suc k) (suc n) h =
 
 same_place : (shape : Shape) (k : ℕ) → local_column shape 0 + k ≡ local_column shape k
 same_place shape k = omega arith
+
+equal_from : (a b : ℕ) → (a == b) ≡ true → a ≡ b
+equal_from a b h = grind (arith, nat_tests)
+
+at_least_from : (a b : ℕ) → nat_le a b ≡ true → a ≤ b
+at_least_from a b h = grind (arith, nat_tests)
+
+pub scattering_odd : (part : System) → is_scattering part ≡ true → part.shape.outputs % 2 ≡ 1
+scattering_odd part h = equal_from _ _ (both _ _ (both _ _ (both _ _ (both _ _ h).0).0).0).0
+
+pub scattering_floors : (part : System) → is_scattering part ≡ true → each_below (has_floor part) part.shape.locals ≡ true
+scattering_floors part h = (both _ _ (both _ _ h).0).1
+
+pub access_locals : (part : System) → is_access part ≡ true → part.shape.locals ≡ 0
+access_locals part h = equal_from _ _ (both _ _ (both _ _ (both _ _ (both _ _ (both _ _ h).0).0).0).0).0
+
+pub access_outputs : (part : System) → is_access part ≡ true → 1 ≤ part.shape.outputs
+access_outputs part h = at_least_from _ _ (both _ _ (both _ _ (both _ _ (both _ _ (both _ _ h).0).0).0).0).1
 
 -- a test that passes at every number below n passes at each
 pub each_at : (test : ℕ → Bool) (n k : ℕ) → k < n → each_below test n ≡ true → test k ≡ true

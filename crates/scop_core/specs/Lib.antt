@@ -2,10 +2,11 @@ pub mod ScopData
 pub mod SolvedRows
 pub mod Layouts
 pub mod Validity
-pub mod OneLoops
 pub mod Order
 pub mod Sequences
 pub mod Memory
 pub mod Meaning
 pub mod Theorems
 pub mod SolvedForm
+pub mod Assembly
+pub mod OneLoops

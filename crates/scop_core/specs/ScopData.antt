@@ -1,5 +1,6 @@
 -- A SCoP as data: what contracts see of a Scop.
-use Rattle.std.specs.Prelude.{ℤ, ℕ, List, [], Option, None, Some}
+use Rattle.std.specs.Prelude.{ℤ, ℕ, List, [], ◌∷◌, ◌++◌, Option, None, Some, if◌then◌else◌}
+use Rattle.std.specs.Str.{bytes_eq}
 use Rattle.relation_core.specs.Systems.{System}
 use Rattle.scop_core.specs.declared.statements.Extension.{Extension}
 use Rattle.scop_core.specs.declared.statements.Statement.{Statement}
@@ -17,3 +18,13 @@ pub record ScopData : Type 0 where
 -- the arrays; none where they are not present
 abbrev pub arrays_of : ScopData → List (ℤ × List ℕ)
 arrays_of scop = elim scop.arrays [ None ↦ [] | Some arrays ↦ arrays ]
+
+-- the extensions of another name
+abbrev pub others : List ℕ → List Extension → List Extension
+others name [] = []
+others name (extension ∷ extensions) =
+    if bytes_eq extension.name name then others name extensions else extension ∷ others name extensions
+
+-- the SCoP with this extension last, in place of those of its name
+abbrev pub extended : ScopData → Extension → ScopData
+extended scop extension = record scop { extensions = others extension.name scop.extensions ++ extension ∷ [] }

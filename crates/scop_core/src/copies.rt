@@ -1,6 +1,8 @@
 //! Copies of the parts of a SCoP, each equal to what it copies.
 
-ghost use Rattle.std.specs.Prelude.{◌≡◌, IfOk};
+ghost use Rattle.std.specs.Prelude.{◌≡◌, [], ◌∷◌, ◌++◌, IfOk};
+ghost use Rattle.std.specs.Str.{bytes_eq};
+ghost use Rattle.scop_core.specs.ScopData.{others};
 
 use crate::accesses::Access;
 use crate::affines::Affine;
@@ -217,5 +219,68 @@ pub fn copied_arrays(
     for item in items {
         made.push(copied_array(alloc, item)?)?;
     }
+    Ok(made)
+}
+
+/// A copy of names, where they are present.
+pub fn copied_names(
+    alloc: Global,
+    names: &Option<List<Text>>,
+) -> Result<Option<List<Text>>, NoMemory>
+    ensures { IfOk result (λ made. made ≡ names.now) }
+{
+    match names {
+        None => Ok(None),
+        Some(names) => Ok(Some(copied_texts(alloc, names.as_slice())?)),
+    }
+}
+
+/// A copy of arrays, where they are present.
+pub fn copied_array_list(
+    alloc: Global,
+    arrays: &Option<List<(Coeff, Text)>>,
+) -> Result<Option<List<(Coeff, Text)>>, NoMemory>
+    ensures { IfOk result (λ made. made ≡ arrays.now) }
+{
+    match arrays {
+        None => Ok(None),
+        Some(arrays) => Ok(Some(copied_arrays(alloc, arrays.as_slice())?)),
+    }
+}
+
+/// Whether two texts are the same.
+fn is_same(a: &[u8], b: &[u8]) -> bool
+    ensures { result ≡ bytes_eq a.now b.now }
+{
+    a == b
+}
+
+/// Copies of the extensions of another name.
+fn other_extensions(
+    alloc: Global,
+    items: &[Extension],
+    name: &[u8],
+) -> Result<List<Extension>, NoMemory>
+    ensures { IfOk result (λ made. made ≡ others name.now items.now) }
+{
+    let mut made = List::new(alloc);
+    for item in items {
+        if !is_same(item.name.bytes(), name) {
+            made.push(copied_extension(alloc, item)?)?;
+        }
+    }
+    Ok(made)
+}
+
+/// Copies of the extensions of another name, with this one behind them.
+pub fn extensions_with(
+    alloc: Global,
+    items: &[Extension],
+    extension: Extension,
+) -> Result<List<Extension>, NoMemory>
+    ensures { IfOk result (λ made. made ≡ others extension.name items.now ++ extension ∷ []) }
+{
+    let mut made = other_extensions(alloc, items, extension.name.bytes())?;
+    made.push(extension)?;
     Ok(made)
 }

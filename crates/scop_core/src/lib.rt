@@ -4,9 +4,11 @@
 
 mod accesses;
 mod affines;
+mod assembling;
+mod clashes;
 mod copies;
 pub mod laws;
-mod one_loops;
+mod limits;
 mod origins;
 mod raw_pieces;
 mod row_builders;

@@ -1,19 +1,25 @@
 //! A whole SCoP. Its fields are private: each is made by `assemble`, which checks it.
 
-ghost use Rattle.std.specs.Prelude.{◌≡◌, ◌<◌, length, slice_get, map, All, MatchOption, IsSomeAnd, OnSome, IfOk, IfErr};
+ghost use Rattle.std.specs.Prelude.{◌≡◌, ◌<◌, length, ◌≤◌, slice_get, None, All, MatchOption, IsSomeAnd, OnSome, OnOk, IfOk, IfErr};
 ghost use Rattle.std.specs.Option.{option_copied};
-ghost use Rattle.scop_core.specs.OneLoops.{IsOneLoopStatement, one_loop_statement, IsOneLoop, one_loop_scop};
-ghost use Rattle.scop_core.specs.ScopData.{arrays_of};
-ghost use Rattle.scop_core.specs.Validity.{IsValid};
+ghost use Rattle.scop_core.specs.Assembly.{first_unsolved, solved_statements, early_refusal_of, refusal_of, scop_of, HasCause, HasShapes};
+ghost use Rattle.scop_core.specs.ScopData.{arrays_of, extended};
+ghost use Rattle.scop_core.specs.Validity.{HasRelations, IsValid};
 
-use crate::one_loops::{loop_accesses, loop_schedule};
-use crate::raw_pieces::{RawStatement, ScopPieces};
+use crate::assembling::{statements_from, unsolved_statement};
+use crate::clashes::statements_clash;
+use crate::copies::{
+    copied_array_list, copied_extensions, copied_names, copied_part, copied_statements,
+    copied_text, extensions_with,
+};
+use crate::limits::{pieces_limit, statements_limit};
+use crate::raw_pieces::ScopPieces;
 use crate::statements::{Extension, Statement};
 use relation_core::Part;
 use row_core::Coeff;
 use std::alloc::Global;
 use std::marker::Model;
-use suite_base::{Fail, List, NoMemory, Text};
+use suite_base::{Fail, List, NoMemory, Refusal, Text};
 
 /// A valid SCoP.
 #[derive(Drop)]
@@ -38,67 +44,111 @@ impl Model for Scop {
     ghost invariant = { λ s. IsValid (record { language = s.language; context = s.context; parameters = s.parameters; statements = s.statements; arrays = s.arrays; extensions = s.extensions }) };
 }
 
-/// The statement of one loop, in solved form.
-fn loop_statement(alloc: Global, raw: RawStatement) -> Result<Statement, NoMemory>
-    requires { IsOneLoopStatement raw }
-    ensures { IfOk result (λ statement. statement ≡ one_loop_statement raw) }
+/// The first limit that the pieces pass, or else the first statement that is not solved.
+fn early_refusal(alloc: Global, pieces: &ScopPieces) -> Result<Option<Refusal>, NoMemory>
+    ensures answer { IfOk result (λ refusal. refusal ≡ early_refusal_of pieces.now) }
+    ensures few { IfOk result (λ refusal. refusal ≡ None → length pieces.now.statements ≤ 1024) }
 {
-    let schedule = loop_schedule(alloc)?;
-    let accesses = loop_accesses(alloc)?;
-    let RawStatement {
-        domain,
-        body,
-        extensions,
-        ..
-    } = raw;
-    match body {
-        None => Err(NoMemory),
-        Some(body) => Ok(Statement {
-            domain,
-            schedule,
-            accesses,
-            body,
-            extensions,
-        }),
+    let raws = pieces.statements.as_slice();
+    let limit = pieces_limit(pieces);
+    if limit.is_some() {
+        return Ok(limit);
     }
+    let limit = statements_limit(raws);
+    if limit.is_some() {
+        return Ok(limit);
+    }
+    unsolved_statement(alloc, raws)
 }
 
-#[tactic(auto, using(crate::proofs::OneLoopForms::one_taken))]
-/// The statements of one loop, in solved form.
-fn loop_statements(alloc: Global, raws: List<RawStatement>) -> Result<List<Statement>, NoMemory>
-    requires one { length raws ≡ 1 }
-    requires form { All IsOneLoopStatement raws }
-    ensures { IfOk result (λ statements. statements ≡ map one_loop_statement raws) }
+/// The statements of the pieces, in solved form.
+fn solved(alloc: Global, pieces: &ScopPieces) -> Result<List<Statement>, NoMemory>
+    requires shapes { All (HasShapes pieces.now.context.shape.parameters) pieces.now.statements }
+    requires solved { first_unsolved 1 pieces.now.statements ≡ None }
+    ensures statements { IfOk result (λ made. made ≡ solved_statements 1 pieces.now.statements) }
+    ensures count { IfOk result (λ made. length made ≡ length pieces.now.statements) }
+    ensures printable { IfOk result (All (HasRelations pieces.now.context.shape.parameters)) }
 {
-    let mut raws = raws;
-    let mut statements = List::new(alloc);
-    match raws.pop() {
-        None => Err(NoMemory),
-        Some(raw) => {
-            statements.push(loop_statement(alloc, raw)?)?;
-            Ok(statements)
-        }
-    }
+    let made = statements_from(alloc, pieces.statements.as_slice())?;
+    Ok(made)
 }
 
 impl Scop {
-    #[tactic(auto, using(crate::proofs::OneLoopForms::one_loop_valid))]
-    /// The SCoP of these pieces, which are those of one upward loop that writes one array element.
+    /// The SCoP of these pieces. It needs the relations and the body of each statement to fit its
+    /// iterators and the parameters. It refuses by the first limit that is passed, of the whole and
+    /// then of the first statement; then by the first statement that is not in solved form; then by
+    /// the first statement whose beta vector clashes with that of one before it.
     pub fn assemble(alloc: Global, pieces: ScopPieces) -> Result<Scop, Fail>
-        requires { IsOneLoop pieces }
-        ensures ok { IfOk result (λ scop. scop ≡ one_loop_scop pieces) }
-        ensures err { IfErr result (λ fail. fail ≡ Fail.Memory) }
+        requires { All (HasShapes pieces.context.shape.parameters) pieces.statements }
+        ensures none { OnOk result (refusal_of pieces ≡ None) }
+        ensures scop { IfOk result (λ scop. scop ≡ scop_of pieces) }
+        ensures cause { IfErr result (HasCause (refusal_of pieces)) }
     {
-        match loop_statements(alloc, pieces.statements) {
+        match early_refusal(alloc, &pieces) {
+            Err(NoMemory) => return Err(Fail::Memory),
+            Ok(Some(refusal)) => return Err(Fail::Refused(refusal)),
+            Ok(None) => {}
+        }
+        match solved(alloc, &pieces) {
             Err(NoMemory) => Err(Fail::Memory),
-            Ok(statements) => Ok(Scop {
-                language: pieces.language,
-                context: pieces.context,
-                parameters: pieces.parameters,
-                statements,
-                arrays: pieces.arrays,
-                extensions: pieces.extensions,
-            }),
+            Ok(statements) => match statements_clash(statements.as_slice()) {
+                Some(refusal) => Err(Fail::Refused(refusal)),
+                None => Ok(Scop {
+                    language: pieces.language,
+                    context: pieces.context,
+                    parameters: pieces.parameters,
+                    statements,
+                    arrays: pieces.arrays,
+                    extensions: pieces.extensions,
+                }),
+            },
+        }
+    }
+
+    /// An equal SCoP.
+    pub fn copy(&self, alloc: Global) -> Result<Scop, NoMemory>
+        ensures { IfOk result (λ scop. scop ≡ self.now) }
+    {
+        Ok(Scop {
+            language: copied_text(alloc, &self.language)?,
+            context: copied_part(alloc, &self.context)?,
+            parameters: copied_names(alloc, &self.parameters)?,
+            statements: copied_statements(alloc, self.statements.as_slice())?,
+            arrays: copied_array_list(alloc, &self.arrays)?,
+            extensions: copied_extensions(alloc, self.extensions.as_slice())?,
+        })
+    }
+
+    /// The SCoP without its extensions of the same name, and with this one behind the others. On
+    /// want of memory the SCoP comes back unchanged.
+    pub fn with_extension(self, extension: Extension) -> Result<Scop, (Scop, NoMemory)>
+        ensures ok { IfOk result (λ scop. scop ≡ extended self extension) }
+        ensures err { IfErr result (λ back. back.0 ≡ self) }
+    {
+        match extensions_with(
+            self.extensions.allocator(),
+            self.extensions.as_slice(),
+            extension,
+        ) {
+            Err(failed) => Err((self, failed)),
+            Ok(extensions) => {
+                let Scop {
+                    language,
+                    context,
+                    parameters,
+                    statements,
+                    arrays,
+                    extensions: _,
+                } = self;
+                Ok(Scop {
+                    language,
+                    context,
+                    parameters,
+                    statements,
+                    arrays,
+                    extensions,
+                })
+            }
         }
     }
 

@@ -199,8 +199,8 @@ fn floors_of(alloc: Global, part: &Part, n: usize) -> Result<List<Floor>, NoMemo
     Ok(made)
 }
 
-/// The schedule that a scattering in solved form is.
-pub fn solved_schedule(alloc: Global, part: &Part) -> Result<Schedule, NoMemory>
+/// The schedule that a part is whose outputs are odd and whose floors have their rows.
+fn schedule_with(alloc: Global, part: &Part) -> Result<Schedule, NoMemory>
     requires odd { part.now.shape.outputs % 2 ≡ 1 }
     requires floors { each_below (has_floor part.now) part.now.shape.locals ≡ true }
     ensures schedule { IfOk result (λ schedule. schedule ≡ schedule_of part.now) }
@@ -212,6 +212,15 @@ pub fn solved_schedule(alloc: Global, part: &Part) -> Result<Schedule, NoMemory>
         levels: levels_of(alloc, part, shape.outputs / 2)?,
         betas: betas_of(alloc, part, shape.outputs / 2 + 1)?,
     })
+}
+
+/// The schedule that a scattering in solved form is.
+pub fn solved_schedule(alloc: Global, part: &Part) -> Result<Schedule, NoMemory>
+    requires { is_scattering part.now ≡ true }
+    ensures schedule { IfOk result (λ schedule. schedule ≡ schedule_of part.now) }
+    ensures printable { IfOk result (HasRelation part.now.shape.inputs part.now.shape.parameters) }
+{
+    schedule_with(alloc, part)
 }
 
 /// Whether the first output is a constant of at least 1.
@@ -268,8 +277,8 @@ fn subscripts_of(alloc: Global, part: &Part, n: usize) -> Result<List<Affine>, N
     Ok(made)
 }
 
-/// The access of this kind that an access relation in solved form is.
-pub fn solved_access(alloc: Global, kind: AccessKind, part: &Part) -> Result<Access, NoMemory>
+/// The access of this kind that a part without locals and with some output is.
+fn access_with(alloc: Global, kind: AccessKind, part: &Part) -> Result<Access, NoMemory>
     requires outputs { 1 ≤ part.now.shape.outputs }
     requires locals { part.now.shape.locals ≡ 0 }
     ensures access { IfOk result (λ access. access ≡ access_of kind part.now) }
@@ -283,4 +292,13 @@ pub fn solved_access(alloc: Global, kind: AccessKind, part: &Part) -> Result<Acc
         array,
         subscripts,
     })
+}
+
+/// The access of this kind that an access relation in solved form is.
+pub fn solved_access(alloc: Global, kind: AccessKind, part: &Part) -> Result<Access, NoMemory>
+    requires { is_access part.now ≡ true }
+    ensures access { IfOk result (λ access. access ≡ access_of kind part.now) }
+    ensures printable { IfOk result (HasAccessRelation part.now.shape.inputs part.now.shape.parameters) }
+{
+    access_with(alloc, kind, part)
 }

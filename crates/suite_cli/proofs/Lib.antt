@@ -3,3 +3,4 @@ pub mod FirstForms
 pub mod WordLists
 pub mod ShortNumbers
 pub mod RunAnswers
+pub mod Assembled

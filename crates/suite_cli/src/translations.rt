@@ -3,7 +3,7 @@
 ghost use Rattle.std.specs.Prelude.{◌≡◌, ℕ, pos, negsuc, neg_ℤ, true, Some, [], ◌∷◌, ◌++◌, IfOk};
 ghost use Rattle.suite_base.specs.Numbers.{digits_after};
 ghost use Rattle.clan_extract.specs.Translation.{one_loop_domain, one_loop_scop};
-ghost use Rattle.scop_core.specs.OneLoops.{IsOneLoopStatement, one_loop_access, one_loop_schedule, the_iterator};
+ghost use Rattle.scop_core.specs.OneLoops.{one_loop_access, one_loop_schedule, the_iterator};
 ghost use Rattle.scop_core.specs.SolvedRows.{access_part, schedule_part};
 ghost use Rattle.suite_cli.specs.FirstForm as spec;
 ghost use Rattle.suite_cli.specs.Names.{is_short_number};

@@ -1,0 +1,8 @@
+use Rattle.scop_core.proofs.SolvedShapes.{access_outputs, access_locals}
+use Rattle.scop_core.proofs.solved_forms.solved_access.Goals as goal
+
+pub access_with-requires-clause-outputs : goal.access_with-requires-clause-outputs
+access_with-requires-clause-outputs c = access_outputs c.args.part.now c.requires
+
+pub access_with-requires-clause-locals : goal.access_with-requires-clause-locals
+access_with-requires-clause-locals c = access_locals c.args.part.now c.requires
