@@ -1,6 +1,7 @@
 -- The pieces of the one loop assemble to its SCoP.
-use Rattle.std.proofs.Common.{◌≡◌, pos, List, [], ◌∷◌, Some, refl, ap, ◌∙◌}
-use Rattle.std.specs.Prelude.{All, codes}
+use Rattle.std.proofs.Common.{◌≡◌, List, [], ◌∷◌, Some, None, refl, ap, sym, subst, ◌∙◌}
+use Rattle.std.specs.Prelude.{All}
+use Rattle.suite_base.specs.declared.refusals.Refusal.{Refusal}
 use Rattle.std.proofs.lemmas.List.Elements.{All-cons, All-nil}
 use Rattle.relation_core.specs.Systems.{System}
 use Rattle.scop_core.specs.declared.accesses.AccessKind.{AccessKind}
@@ -9,9 +10,9 @@ use Rattle.scop_core.specs.declared.raw_pieces.ScopPieces.{ScopPieces}
 use Rattle.scop_core.specs.OneLoops.{one_loop_access, one_loop_schedule}
 use Rattle.scop_core.specs.SolvedRows.{access_part, schedule_part}
 use Rattle.scop_core.specs.ScopData.{ScopData}
-use Rattle.scop_core.specs.Assembly.{HasInputs, HasShapes, scop_of, solved_statements}
-use Rattle.clan_extract.specs.Translation.{OneLoop, one_loop_scop, one_loop_statement}
-use Rattle.suite_cli.specs.Pieces.{raw_statement, write_of}
+use Rattle.scop_core.specs.Assembly.{HasInputs, HasShapes, refusal_of, scop_of}
+use Rattle.clan_extract.specs.Translation.{OneLoop, one_loop_scop}
+use Rattle.suite_cli.specs.Pieces.{pieces_of, raw_statement, write_of}
 
 scattering_inputs : HasInputs 1 1 (schedule_part 1 1 one_loop_schedule)
 scattering_inputs = record { inputs_are = refl; parameters_are = refl }
@@ -32,12 +33,14 @@ shapes l = record {
 pub shapes_one : (l : OneLoop) → All (HasShapes 1) (raw_statement l ∷ [])
 shapes_one l = All-cons (HasShapes 1) (raw_statement l) [] (shapes l) (All-nil (HasShapes 1))
 
-solved_one : (l : OneLoop) → solved_statements 1 (raw_statement l ∷ []) ≡ one_loop_statement l ∷ []
-solved_one l = refl
+-- the pieces fit their parameters
+pub pieces_fit : (l : OneLoop) (p : ScopPieces) → p ≡ pieces_of l → All (HasShapes p.context.shape.parameters) p.statements
+pieces_fit l p e = let P : ScopPieces → Type 0 = λ q. All (HasShapes q.context.shape.parameters) q.statements in subst P (sym e) (shapes_one l)
 
--- what its pieces assemble to
-pub assembled : (l : OneLoop) (pieces : ScopPieces) (scop : ScopData) → scop ≡ scop_of pieces → pieces.language ≡ (one_loop_scop l).language
-    → pieces.context ≡ (one_loop_scop l).context → pieces.parameters ≡ (one_loop_scop l).parameters → pieces.statements ≡ raw_statement l ∷ []
-    → pieces.arrays ≡ (one_loop_scop l).arrays → pieces.extensions ≡ [] → scop ≡ one_loop_scop l
-assembled l pieces scop e language context parameters statements arrays extensions =
-    e ∙ rw (language, context, parameters, statements, arrays, extensions) refl
+-- what they assemble to
+pub pieces_assemble : (l : OneLoop) (p : ScopPieces) (scop : ScopData) → p ≡ pieces_of l → scop ≡ scop_of p → scop ≡ one_loop_scop l
+pieces_assemble l p scop e s = s ∙ ap scop_of e
+
+-- nothing in them is refused
+pub pieces_stand : (l : OneLoop) (p : ScopPieces) (refusal : Refusal) → p ≡ pieces_of l → refusal_of p ≡ Some refusal → ⊥
+pieces_stand l p refusal e r = let none : refusal_of p ≡ None = ap refusal_of e in cc

@@ -1,10 +1,11 @@
 -- The pieces that the SCoP of the one loop is assembled from.
-use Rattle.std.specs.Prelude.{ℤ, pos, negsuc, neg_ℤ, List, [], ◌∷◌, Some}
+use Rattle.std.specs.Prelude.{ℤ, pos, negsuc, neg_ℤ, List, [], ◌∷◌, Some, codes}
 use Rattle.relation_core.specs.Systems.{System}
 use Rattle.relation_core.specs.declared.part_rows.RowKind.TheVariants.{AtLeast}
 use Rattle.scop_core.specs.declared.accesses.AccessKind.{AccessKind}
 use Rattle.scop_core.specs.declared.accesses.AccessKind.TheVariants.{Write}
 use Rattle.scop_core.specs.declared.raw_pieces.RawStatement.{RawStatement}
+use Rattle.scop_core.specs.declared.raw_pieces.ScopPieces.{ScopPieces}
 use Rattle.scop_core.specs.OneLoops.{one_loop_access, one_loop_schedule}
 use Rattle.scop_core.specs.SolvedRows.{access_part, schedule_part}
 use Rattle.clan_extract.specs.Translation.{OneLoop}
@@ -28,5 +29,16 @@ raw_statement l = record {
   scattering = schedule_part 1 1 one_loop_schedule ∷ [];
   accesses = write_of (access_part 1 1 one_loop_access) ∷ [];
   body = Some (record { text = l.text; iterators = l.iterator ∷ [] });
+  extensions = [];
+}
+
+-- the pieces of the one loop
+abbrev pub pieces_of : OneLoop → ScopPieces
+pieces_of l = record {
+  language = codes "C";
+  context = record { shape = record { outputs = 0; inputs = 0; locals = 0; parameters = 1 }; rows = [] };
+  parameters = Some (l.parameter ∷ []);
+  statements = raw_statement l ∷ [];
+  arrays = Some ((pos 1, l.array) ∷ []);
   extensions = [];
 }

@@ -14,7 +14,7 @@ use relation_core::{Part, Relation, RowKind, Shape};
 use row_core::Coeff;
 use scop_core::{Access, AccessKind, Affine, Body, RawStatement, Schedule, Scop, ScopPieces};
 use std::alloc::Global;
-use suite_base::{List, NoMemory, NumberRead, Text, read_number};
+use suite_base::{Fail, List, NoMemory, NumberRead, Text, read_number};
 
 /// The SCoP of the loop: one statement, whose domain goes from the start up to the parameter, and
 /// which writes the array at the iterator.
@@ -22,27 +22,39 @@ pub fn translation(alloc: Global, text: &LoopText<'_>) -> Result<Scop, NoMemory>
     requires { is_short_number text.now.start.now ≡ true }
     ensures { IfOk result (λ scop. scop ≡ one_loop_scop (spec.loop_of (spec.words_of text.now))) }
 {
-    let context = Part::new(
-        alloc,
-        Shape {
-            outputs: 0,
-            inputs: 0,
-            locals: 0,
-            parameters: 1,
-        },
-    );
-    let pieces = ScopPieces {
-        language: text_of(alloc, b"C")?,
-        context,
-        parameters: Some(one_text(alloc, text.parameter)?),
-        statements: one_statement(alloc, text)?,
-        arrays: Some(one_array(alloc, text.array)?),
-        extensions: List::new(alloc),
-    };
+    let pieces = loop_pieces(alloc, text)?;
     match Scop::assemble(alloc, pieces) {
         Ok(scop) => Ok(scop),
-        Err(_) => Err(NoMemory),
+        Err(Fail::Memory) => Err(NoMemory),
+        Err(Fail::Refused(_)) => unreachable!(),
     }
+}
+
+/// The pieces of the loop, as a text would give them.
+fn loop_pieces(alloc: Global, text: &LoopText<'_>) -> Result<ScopPieces, NoMemory>
+    requires { is_short_number text.now.start.now ≡ true }
+    ensures { IfOk result (λ found. found ≡ pieces.pieces_of (spec.loop_of (spec.words_of text.now))) }
+{
+    let language = text_of(alloc, b"C")?;
+    let parameters = one_text(alloc, text.parameter)?;
+    let statements = one_statement(alloc, text)?;
+    let arrays = one_array(alloc, text.array)?;
+    Ok(ScopPieces {
+        language,
+        context: Part::new(
+            alloc,
+            Shape {
+                outputs: 0,
+                inputs: 0,
+                locals: 0,
+                parameters: 1,
+            },
+        ),
+        parameters: Some(parameters),
+        statements,
+        arrays: Some(arrays),
+        extensions: List::new(alloc),
+    })
 }
 
 /// A text with these bytes.
