@@ -1,0 +1,5 @@
+pub mod Documents
+pub mod Lines
+pub mod Reading
+pub mod Rules
+pub mod Texts
