@@ -1,0 +1,2 @@
+pub mod LineExtents
+pub mod ReadingLemmas
