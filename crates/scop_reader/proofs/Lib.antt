@@ -1,2 +1,3 @@
 pub mod LineExtents
 pub mod ReadingLemmas
+pub mod WordColumns

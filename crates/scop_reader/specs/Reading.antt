@@ -129,3 +129,9 @@ abbrev pub Reads : {A : Type 0} → Outcome A → Result A Fail → Rest → Typ
 Reads outcome (Ok a) now = outcome ≡ Ok (a, now)
 Reads outcome (Err fail.Memory) now = Unit {0}
 Reads outcome (Err (fail.Refused refusal)) now = outcome ≡ Err refusal
+
+-- the same for a function that takes no line
+abbrev pub Gives : {A : Type 0} → Result A Refusal → Result A Fail → Type 0
+Gives wanted (Ok a) = wanted ≡ Ok a
+Gives wanted (Err fail.Memory) = Unit {0}
+Gives wanted (Err (fail.Refused refusal)) = wanted ≡ Err refusal

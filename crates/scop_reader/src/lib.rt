@@ -2,6 +2,8 @@
 #![tactic(auto)]
 
 mod cursors;
+mod line_words;
+mod number_words;
 mod roles;
 mod text_lines;
 

@@ -40,7 +40,8 @@ impl<'a> TextLine<'a> {
     }
 
     pub fn bytes(&self) -> &'a [u8]
-        ensures { result.now ≡ self.now.bytes }
+        ensures value { result.now ≡ self.now.bytes }
+        ensures small { length result.now < 2 ^ 32 }
     {
         self.bytes
     }
