@@ -450,14 +450,20 @@ no_second rest = elim (from_open rest.number rest.lines).lines [ [] ↦ None | l
 unfoldable pub no_more : Reader (Unit {0})
 no_more = λ rest. unless (no_second rest) rest
 
+-- a line of one word
+unfoldable pub one_word : Reader (List ℕ)
+one_word = do
+  found ← word_line 1
+  pure (first_of found)
+
 unfoldable pub scop : Reader ScopPieces
 scop = do
   opening
-  language ← word_line 1
+  language ← one_word
   context ← context
   names ← parameters context.shape.parameters
   count ← statement_count
   statements ← statements_from context.shape.parameters 1 count []
   globals ← globals
   no_more
-  pure (record { language = first_of language; context = context; parameters = names; statements = statements; arrays = globals.special; extensions = globals.others })
+  pure (record { language = language; context = context; parameters = names; statements = statements; arrays = globals.special; extensions = globals.others })
