@@ -1,4 +1,5 @@
 pub mod Documents
+pub mod Headers
 pub mod Lines
 pub mod Reading
 pub mod Rules

@@ -112,12 +112,18 @@ header_limit role k header =
 abbrev pub is_shaped : Role → Header → Bool
 is_shaped role header = (header.columns == columns header.shape + 2) && suits role header.shape
 
+-- a line of six numbers
+unfoldable pub counts_line : Reader (Line × Header)
+counts_line = do
+  found ← number_line 6 is_count
+  pure (found.0, header_of (naturals found.1))
+
 unfoldable pub header_line : Role → ℕ → Reader Header
 header_line role k = do
-  found ← number_line 6 is_count
-  check (is_shaped role (header_of (naturals found.1))) (BadScop found.0.number)
-  unless (header_limit role k (header_of (naturals found.1)))
-  pure (header_of (naturals found.1))
+  found ← counts_line
+  check (is_shaped role found.1) (BadScop found.0.number)
+  unless (header_limit role k found.1)
+  pure found.1
 
 -- the first number of a row: 0 for an equality, 1 for an inequality
 abbrev pub is_kind : ℤ → Bool

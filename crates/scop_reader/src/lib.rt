@@ -2,6 +2,7 @@
 #![tactic(auto)]
 
 mod cursors;
+mod headers;
 mod line_rules;
 mod line_words;
 mod number_words;

@@ -1,13 +1,13 @@
 //! Lines of the grammar: fixed words, words, numbers.
 
-ghost use Rattle.std.specs.Prelude.{◌≡◌, ◌<◌, ◌^◌, IfOk};
+ghost use Rattle.std.specs.Prelude.{◌≡◌, ◌==◌, false, [], ◌∷◌, length, IfOk, MatchOption};
 ghost use Rattle.scop_reader.specs.Lines.{words_of, word_bytes};
 ghost use Rattle.scop_reader.specs.Reading.{Reads};
 ghost use Rattle.scop_reader.specs.Reading as spec;
 ghost use Rattle.scop_reader.specs.Rules as rule;
 
 use crate::cursors::{Cursor, bad_line};
-use crate::line_words::{LineWords, has_words};
+use crate::line_words::{LineWords, TextWord, has_words};
 use crate::number_words::number_from;
 use crate::text_lines::TextLine;
 use std::alloc::Global;
@@ -104,17 +104,21 @@ pub fn count_line<'a>(cursor: &mut Cursor<'a>, least: u8) -> Result<(TextLine<'a
     ensures { Reads (rule.count_line least cursor.old) result cursor.new }
 {
     let line = cursor.said_line()?;
-    if !has_words(&line, 1) {
+    let Some(word) = lone_word(&line) else {
         return Err(bad_line(line.number()));
-    }
-    let count = first_count(&line, least)?;
-    Ok((line, count))
+    };
+    let number = number_from(&line, &word, least)?;
+    Ok((line, number.unsigned_abs()))
 }
 
-/// The number that a line of one word has, which is at least `least`.
-fn first_count(line: &TextLine<'_>, least: u8) -> Result<u128, Fail> {
-    match LineWords::new(line).next() {
-        Some(word) => Ok(number_from(line, &word, least)?.unsigned_abs()),
-        None => Err(bad_line(line.number())),
+/// The word of a line that has one word.
+fn lone_word<'a>(line: &TextLine<'a>) -> Option<TextWord<'a>>
+    ensures { MatchOption result ((length (words_of line.now.bytes) == 1) ≡ false) (λ word. words_of line.now.bytes ≡ word ∷ []) }
+{
+    let mut words = LineWords::new(line);
+    let word = words.next()?;
+    match words.next() {
+        Some(_) => None,
+        None => Some(word),
     }
 }
