@@ -6,6 +6,7 @@ mod headers;
 mod line_rules;
 mod line_words;
 mod number_words;
+mod part_rules;
 mod roles;
 mod text_lines;
 
