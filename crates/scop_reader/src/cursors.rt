@@ -3,8 +3,10 @@
 ghost use Rattle.std.specs.Prelude.{◌≡◌, ◌<◌, ◌≤◌, ◌-◌, ◌^◌, length};
 ghost use Rattle.suite_base.specs.Lines.{lines};
 ghost use Rattle.scop_reader.specs.Lines.{TakesLine, behind_silent};
+ghost use Rattle.scop_reader.specs.Rules.{is_counted};
 ghost use Rattle.scop_reader.specs.Reading.{Reads, said_line, next_said};
 
+use crate::line_words::has_words;
 use crate::text_lines::TextLine;
 use std::marker::Model;
 use suite_base::{Fail, Lines, Refusal};
@@ -97,6 +99,18 @@ impl<'a> Cursor<'a> {
         match ahead.next_said_line() {
             Some(line) => line.bytes(),
             None => &[],
+        }
+    }
+
+    /// Whether the next line that says something has one word.
+    #[tactic(auto, unfolding(crate::specs::Reading::next_said))]
+    pub fn sees_count(&self) -> bool
+        ensures { result ≡ is_counted (next_said self.now) }
+    {
+        let mut ahead = self.copy();
+        match ahead.next_said_line() {
+            Some(line) => has_words(&line, 1),
+            None => false,
         }
     }
 }

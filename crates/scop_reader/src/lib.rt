@@ -7,6 +7,7 @@ mod line_rules;
 mod line_words;
 mod number_words;
 mod part_rules;
+mod relation_rules;
 mod roles;
 mod text_lines;
 
