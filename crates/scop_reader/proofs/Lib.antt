@@ -3,3 +3,6 @@ pub mod ReadingLemmas
 pub mod WordColumns
 pub mod NumberRuns
 pub mod Turns
+pub mod LastBytes
+pub mod NameLines
+pub mod KeptLines

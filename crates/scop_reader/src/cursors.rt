@@ -1,7 +1,9 @@
 //! A cursor over the lines of a text, which knows the number of the next line.
 
 ghost use Rattle.std.specs.Prelude.{◌≡◌, ◌<◌, ◌≤◌, ◌-◌, ◌^◌, length};
+ghost use Rattle.std.specs.Str.{bytes_eq};
 ghost use Rattle.suite_base.specs.Lines.{lines};
+ghost use Rattle.suite_base.specs.Words.{content};
 ghost use Rattle.scop_reader.specs.Lines.{TakesLine, behind_silent};
 ghost use Rattle.scop_reader.specs.Rules.{is_counted};
 ghost use Rattle.scop_reader.specs.Reading.{Reads, said_line, next_said};
@@ -90,16 +92,34 @@ impl<'a> Cursor<'a> {
         }
     }
 
-    /// The next line that says something; empty where there is none. It stays where it is.
+    /// Whether the next line that says something says exactly this. It stays where it is.
     #[tactic(auto, unfolding(crate::specs::Reading::next_said))]
-    pub fn next_said(&self) -> &'a [u8]
-        ensures { result.now ≡ next_said self.now }
+    pub fn sees(&self, text: &[u8]) -> bool
+        ensures { result ≡ bytes_eq (content (next_said self.now)) text.now }
     {
         let mut ahead = self.copy();
         match ahead.next_said_line() {
-            Some(line) => line.bytes(),
-            None => &[],
+            Some(line) => line.content() == text,
+            None => text.is_empty(),
         }
+    }
+
+    /// The number of the next line that says something, or of the text's end.
+    pub fn said_number(&self) -> u32
+        ensures { result ≡ (behind_silent self.now.number self.now.lines).number }
+    {
+        let mut ahead = self.copy();
+        match ahead.next_said_line() {
+            Some(line) => line.number(),
+            None => ahead.number,
+        }
+    }
+
+    /// The number of the next line, or of the text's end.
+    pub fn number(&self) -> u32
+        ensures { result ≡ self.now.number }
+    {
+        self.number
     }
 
     /// Whether the next line that says something has one word.

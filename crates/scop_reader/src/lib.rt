@@ -1,8 +1,11 @@
 //! OpenScop text read: the pieces of a SCoP, or the first refusal of the text.
 #![tactic(auto)]
 
+mod bodies;
 mod cursors;
+mod extension_names;
 mod headers;
+mod kept_lines;
 mod line_rules;
 mod line_words;
 mod number_words;
