@@ -12,6 +12,7 @@ mod number_words;
 mod part_rules;
 mod relation_rules;
 mod roles;
+mod statement_rules;
 mod text_lines;
 
 pub use roles::Role;
