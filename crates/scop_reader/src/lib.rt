@@ -1,6 +1,7 @@
 //! OpenScop text read: the pieces of a SCoP, or the first refusal of the text.
 #![tactic(auto)]
 
+mod array_rules;
 mod bodies;
 mod cursors;
 mod extension_names;
