@@ -1,1 +1,3 @@
+pub mod GrammarLines
+pub mod GrammarWords
 mod Checks
