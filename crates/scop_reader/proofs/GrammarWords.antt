@@ -201,15 +201,15 @@ err r = Err r
 pub not_ok : {A : Type 0} (r : Refusal) (a : A) → err r ≡ ok a → ⊥
 not_ok r a e = absurd (cc)
 
-value_is : (n : ℤ) (r : NumberRead) → is_value n r ≡ true → r ≡ Value n
+pub value_is : (n : ℤ) (r : NumberRead) → is_value n r ≡ true → r ≡ Value n
 value_is n (Value m) e = ap (λ (z : ℤ). Value z) ((Decides-int_eq m n).0 e)
 value_is n TooLarge e = absurd (cc)
 value_is n NotNumber e = absurd (cc)
 
-is_its_value : (n : ℤ) (r : NumberRead) → r ≡ Value n → is_value n r ≡ true
+pub is_its_value : (n : ℤ) (r : NumberRead) → r ≡ Value n → is_value n r ≡ true
 is_its_value n r e = rw e ((Decides-int_eq n n).1 refl)
 
-number_in_ok : (line : Line) (allowed : ℤ → Bool) (word : Word) (r : NumberRead) (n : ℤ) → number_in line allowed word r ≡ Ok n → (r ≡ Value n) × (allowed n ≡ true)
+pub number_in_ok : (line : Line) (allowed : ℤ → Bool) (word : Word) (r : NumberRead) (n : ℤ) → number_in line allowed word r ≡ Ok n → (r ≡ Value n) × (allowed n ≡ true)
 number_in_ok line allowed word (Value m) n e =
     elim (if_cases (allowed m) (Ok m) (Err (BadScop line.number)) (Ok n) e) [
       | inl found ↦
@@ -220,7 +220,7 @@ number_in_ok line allowed word (Value m) n e =
 number_in_ok line allowed word TooLarge n e = absurd (cc)
 number_in_ok line allowed word NotNumber n e = absurd (cc)
 
-with_number_ok : (a : Result ℤ Refusal) (b : Result (List ℤ) Refusal) (ns : List ℤ) → with_number a b ≡ Ok ns → (n : ℤ) × (more : List ℤ) × (a ≡ Ok n) × (b ≡ Ok more) × (ns ≡ n ∷ more)
+pub with_number_ok : (a : Result ℤ Refusal) (b : Result (List ℤ) Refusal) (ns : List ℤ) → with_number a b ≡ Ok ns → (n : ℤ) × (more : List ℤ) × (a ≡ Ok n) × (b ≡ Ok more) × (ns ≡ n ∷ more)
 with_number_ok (Err e) b ns h = absurd (cc)
 with_number_ok (Ok n) (Err e) ns h = absurd (cc)
 with_number_ok (Ok n) (Ok more) ns h =

@@ -1,3 +1,4 @@
 pub mod GrammarLines
 pub mod GrammarWords
+pub mod GrammarParts
 mod Checks
