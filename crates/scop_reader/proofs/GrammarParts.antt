@@ -162,7 +162,7 @@ row_line_said size row rest now some e =
     let numbers : r.0 ≡ kind_number row.kind ∷ row.entries = in_row.numbers ∙ ap (λ (x : PartRow). kind_number x.kind ∷ x.entries) is in
     (sym (ap length numbers) ∙ (in_row.size ∙ long), ap (λ (l : List ℤ). behind (Numbers l) rest) (sym numbers) ∙ said)
 
-push_list : {A : Type 0} (found : List A) (x : A) (more : List A) → (found ++ x ∷ []) ++ more ≡ found ++ x ∷ more
+pub push_list : {A : Type 0} (found : List A) (x : A) (more : List A) → (found ++ x ∷ []) ++ more ≡ found ++ x ∷ more
 push_list found x more = append_assoc found (x ∷ []) more
 
 -- rows of this width

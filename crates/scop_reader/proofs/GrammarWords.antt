@@ -23,7 +23,7 @@ use Rattle.scop_reader.proofs.GrammarLines.{other_way, if_cases, then_ok, check_
 
 -- ---- the end of a reader
 
-check_end : (holds : Bool) (r : Refusal) (rest now : Rest) (u : Unit {0}) → check holds r rest ≡ Ok (u, now) → (holds ≡ true) × (rest ≡ now)
+pub check_end : (holds : Bool) (r : Refusal) (rest now : Rest) (u : Unit {0}) → check holds r rest ≡ Ok (u, now) → (holds ≡ true) × (rest ≡ now)
 check_end true r rest now u e = (refl, same_left tt u rest now e)
 check_end false r rest now u e = absurd (cc)
 
