@@ -2,4 +2,5 @@ pub mod GrammarLines
 pub mod GrammarWords
 pub mod GrammarParts
 pub mod GrammarRelations
+pub mod GrammarText
 mod Checks
