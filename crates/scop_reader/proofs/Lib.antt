@@ -3,4 +3,5 @@ pub mod GrammarWords
 pub mod GrammarParts
 pub mod GrammarRelations
 pub mod GrammarText
+pub mod GrammarBodies
 mod Checks
