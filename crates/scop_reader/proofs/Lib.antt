@@ -4,4 +4,5 @@ pub mod GrammarParts
 pub mod GrammarRelations
 pub mod GrammarText
 pub mod GrammarBodies
+pub mod GrammarArrays
 mod Checks
