@@ -5,4 +5,5 @@ pub mod GrammarRelations
 pub mod GrammarText
 pub mod GrammarBodies
 pub mod GrammarArrays
+pub mod GrammarExtensions
 mod Checks
