@@ -1,6 +1,7 @@
 -- Extensions, read and said: by a rule of their own or kept line by line, and one after another.
-use Rattle.std.proofs.Common.{◌≡◌, refl, sym, ap, ◌∙◌, Some, None, ℕ, ◌+◌, ◌-◌, List, [], ◌∷◌, ◌++◌, length, map, take, Ok, Bool, true, false, not, ◌&&◌, ◌⊎◌, inl, inr, arith}
+use Rattle.std.proofs.Common.{◌≡◌, refl, sym, ap, ◌∙◌, Option, Some, None, ℕ, ℤ, ◌+◌, ◌-◌, ◌≤◌, ◌<◌, zero, suc, List, [], ◌∷◌, ◌++◌, length, map, take, Ok, Bool, true, false, not, ◌&&◌, ◌⊎◌, inl, inr, arith, append_assoc}
 use Rattle.std.specs.Prelude.{if◌then◌else◌}
+use Rattle.std.specs.List.{flat_map}
 use Rattle.std.specs.Str.{bytes_eq}
 use Rattle.std.proofs.lemmas.Bool.{and_parts, and_from}
 use Rattle.std.proofs.lemmas.List.{append-nil, take_at, length_push}
@@ -8,14 +9,22 @@ use Rattle.std.proofs.lemmas.Slice.Eq.{bytes_eq-Decides}
 use Rattle.suite_base.specs.declared.refusals.Refusal.TheVariants.{BadScop}
 use Rattle.suite_base.specs.Lines.{trim}
 use Rattle.suite_base.specs.Words.{content}
+use Rattle.suite_base.proofs.LineCuts.{bool_tells}
+use Rattle.scop_core.specs.declared.statements.Body.{Body}
 use Rattle.scop_core.specs.declared.statements.Extension.{Extension}
-use Rattle.scop_core.specs.Printable.{has_no, end_line, is_extension_name, are_kept_lines, is_kept}
+use Rattle.scop_core.specs.Printable.{has_no, end_line, body_name, arrays_name, is_extension_name, is_letter, are_letters_or_digits, are_kept_lines, is_kept}
 use Rattle.scop_reader.specs.Lines.{Rest}
-use Rattle.scop_reader.specs.Reading.{Outcome, Reader, said_line}
-use Rattle.scop_reader.specs.Rules.{kept_from, kept_lines, kept, opened_name, is_opening, Extensions, is_none, extension}
-use Rattle.scop_reader.specs.Documents.{Said, Literal, Raw, End, says, is_raw, behind, behind_all, Item, Special, Kept, open_line, said_item}
-use Rattle.scop_reader.proofs.GrammarLines.{then_ok, check_then, read_ok, same_value, same_left, behind_line, line_behind, are_lines, all_keeps, if_cases, split_one, join_one, one_alone, alone_one}
+use Rattle.scop_reader.specs.Reading.{Outcome, Reader, and_then, said_line, next_said, literal}
+use Rattle.scop_reader.specs.Rules
+use Rattle.scop_reader.specs.Rules.{kept_from, kept_lines, kept, opened_name, is_opening, Extensions, is_none, extension, extensions_from, no_extensions, globals_from, globals, close_word}
+use Rattle.scop_reader.specs.Documents.{Said, Literal, Raw, End, says, is_raw, behind, behind_all, Item, Special, Kept, open_line, said_item, said_body, said_arrays, first_special, kept_items}
+use Rattle.scop_reader.specs.Texts.{has_no_special, has_one_special}
+use Rattle.scop_reader.proofs.GrammarLines.{then_ok, check_then, read_ok, same_value, same_left, behind_line, line_behind, are_lines, all_keeps, if_cases, split, split_one, join, join_one, one_alone, alone_one, all_fewer, behind_fewer}
+use Rattle.scop_reader.proofs.GrammarWords.{literal_reads, literal_said}
 use Rattle.scop_reader.proofs.GrammarParts.{push_list}
+use Rattle.scop_reader.proofs.GrammarRelations.{next_is}
+use Rattle.scop_reader.proofs.GrammarBodies.{said_behind_body, IsBody, body_reads, body_said}
+use Rattle.scop_reader.proofs.GrammarArrays.{said_behind_arrays, AreArrays, arrays_reads, arrays_said}
 
 -- ---- lines as they are
 
@@ -229,3 +238,221 @@ module _ {A : Type 0} (special : List ℕ) (rule : Reader A) (said_rule tail : A
               said = ap (λ (n : List ℕ). behind_all (Literal (open_line n) ∷ said_to_end n u.value.lines) rest) (sym named) ∙ whole;
             }
       ]
+
+-- ---- extensions one after another
+
+abbrev pub ItemsFit : {A : Type 0} → List ℕ → (A → Type 0) → List (Item A) → Type 0
+ItemsFit special D [] = Unit {0}
+ItemsFit special D (item ∷ items) = ItemFits special D item × ItemsFit special D items
+
+-- what was found and these extensions
+abbrev pub gathered : {A : Type 0} → Extensions A → List (Item A) → Extensions A
+gathered found [] = found
+gathered found (item ∷ items) = gathered (with_item found item) items
+
+-- the special extension comes at most once, and not where it was found already
+abbrev pub follow : {A : Type 0} → Extensions A → List (Item A) → Bool
+follow found [] = true
+follow found (item ∷ items) = can_follow found item && follow (with_item found item) items
+
+abbrev either : {A : Type 0} → Option A → Option A → Option A
+either None b = b
+either (Some a) b = Some a
+
+gathered_is : {A : Type 0} (items : List (Item A)) (s : Option A) (others : List Extension) → follow (record { special = s; others = others }) items ≡ true
+    → gathered (record { special = s; others = others }) items ≡ record { special = either s (first_special items); others = others ++ kept_items items }
+gathered_is [] None others h = ap (λ (l : List Extension). record { special = None; others = l }) (sym (append-nil others))
+gathered_is [] (Some a) others h = ap (λ (l : List Extension). record { special = Some a; others = l }) (sym (append-nil others))
+gathered_is (Special a ∷ items) None others h = gathered_is items (Some a) others h
+gathered_is (Special a ∷ items) (Some b) others h = absurd (cc)
+gathered_is (Kept x ∷ items) s others h =
+    gathered_is items s (others ++ x ∷ []) h ∙ ap (λ (l : List Extension). record { special = either s (first_special items); others = l }) (push_list others x (kept_items items))
+
+pub gathered_from : {A : Type 0} (items : List (Item A)) → follow (no_extensions {A = A}) items ≡ true → gathered no_extensions items ≡ record { special = first_special items; others = kept_items items }
+gathered_from items h = gathered_is items None [] h
+
+one_special : {A : Type 0} (items : List (Item A)) (s : Option A) (others : List Extension) → follow (record { special = s; others = others }) items ≡ (if is_none s then has_one_special items else has_no_special items)
+one_special [] None others = refl
+one_special [] (Some a) others = refl
+one_special (Special a ∷ items) None others = one_special items (Some a) others
+one_special (Special a ∷ items) (Some b) others = refl
+one_special (Kept x ∷ items) None others = one_special items None (others ++ x ∷ [])
+one_special (Kept x ∷ items) (Some b) others = one_special items (Some b) (others ++ x ∷ [])
+
+pub follow_is : {A : Type 0} (items : List (Item A)) → follow (no_extensions {A = A}) items ≡ has_one_special items
+follow_is items = one_special items None []
+
+-- ---- the extensions of a statement
+
+body_is : (iterators : ℕ) → IsRule body_name (Rules.body iterators) said_body said_behind_body (IsBody iterators)
+body_is iterators = record {
+  opens = λ a. refl;
+  name = refl;
+  reads = λ a rest now is e. body_reads iterators a rest now is e;
+  said = λ a rest now h e. body_said iterators a rest now h e;
+}
+
+pub items_reads : (iterators n : ℕ) (items : List (Item Body)) (found : Extensions Body) (rest now : Rest) → ItemsFit body_name (IsBody iterators) items → follow found items ≡ true → length items ≡ n
+    → behind_all (flat_map (said_item said_body) items) rest ≡ Some now → extensions_from iterators n found rest ≡ Ok (gathered found items, now)
+unfolding extensions_from
+items_reads iterators zero [] found rest now fit free size e =
+    let same : rest ≡ now = cc in
+    ap (read_ok found) same
+items_reads iterators (suc n) [] found rest now fit free size e = absurd (omega (arith, size))
+items_reads iterators zero (item ∷ items) found rest now fit free size e = absurd (omega (arith, size))
+items_reads iterators (suc n) (item ∷ items) found rest now fit free size e =
+    let s = split (said_item said_body item) (flat_map (said_item said_body) items) rest now e in
+    let both = and_parts (can_follow found item) (follow (with_item found item) items) free in
+    let one = item_reads body_name (Rules.body iterators) said_body said_behind_body (IsBody iterators) (body_is iterators) item found rest s.mid fit.0 both.0 s.first in
+    rw one (items_reads iterators n items (with_item found item) s.mid now fit.1 both.1 (omega (arith, size)) s.second)
+
+-- the extensions that were read
+pub record ItemsRead (iterators n : ℕ) (found next : Extensions Body) (rest now : Rest) : Type 0 where
+  pub items : List (Item Body)
+  pub fit : ItemsFit body_name (IsBody iterators) items
+  pub free : follow found items ≡ true
+  pub size : length items ≡ n
+  pub next_is : next ≡ gathered found items
+  pub said : behind_all (flat_map (said_item said_body) items) rest ≡ Some now
+
+pub items_said : (iterators n : ℕ) (next found : Extensions Body) (rest now : Rest) → are_lines rest.lines ≡ true → extensions_from iterators n found rest ≡ Ok (next, now) → ItemsRead iterators n found next rest now
+unfolding extensions_from
+items_said iterators zero next found rest now h e =
+    record { items = []; fit = tt; free = refl; size = refl; next_is = sym (same_value found next rest now e); said = ap (λ (r : Rest). Some r) (same_left found next rest now e) }
+items_said iterators (suc n) next found rest now h e =
+    let t = then_ok (extension body_name (Rules.body iterators) found rest) _ next now e in
+    let one = item_said body_name (Rules.body iterators) said_body said_behind_body (IsBody iterators) (body_is iterators) t.value found rest t.mid h t.first in
+    let h1 : are_lines t.mid.lines ≡ true = all_keeps (said_item said_body one.item) rest t.mid one.said h in
+    let more = items_said iterators n next t.value t.mid now h1 t.second in
+    record {
+      items = one.item ∷ more.items;
+      fit = (one.fits, more.fit);
+      free = and_from (can_follow found one.item) (follow (with_item found one.item) more.items) one.free (ap (λ (x : Extensions Body). follow x more.items) (sym one.next_is) ∙ more.free);
+      size = ap suc more.size;
+      next_is = more.next_is ∙ ap (λ (x : Extensions Body). gathered x more.items) one.next_is;
+      said = join (said_item said_body one.item) (flat_map (said_item said_body) more.items) rest t.mid now one.said more.said;
+    }
+
+-- ---- the global extensions
+
+abbrev Array : Type 0
+Array = ℤ × List ℕ
+
+arrays_is : IsRule arrays_name Rules.arrays said_arrays said_behind_arrays AreArrays
+arrays_is = record {
+  opens = λ a. refl;
+  name = refl;
+  reads = λ a rest now is e. arrays_reads a rest now is e;
+  said = λ a rest now h e. arrays_said a rest now h e;
+}
+
+-- no extension is opened by the line that ends the whole
+not_close : (name : List ℕ) → is_extension_name name ≡ true → bytes_eq (open_line name) close_word ≡ false
+not_close [] h = absurd (cc)
+not_close (b ∷ name) h =
+    elim (bool_tells (bytes_eq (open_line (b ∷ name)) close_word)) [
+      | inl e ↦
+          let same : open_line (b ∷ name) ≡ close_word = (bytes_eq-Decides (open_line (b ∷ name)) close_word).0 e in
+          let slash : b ≡ 47 = second_is b (name ++ 62 ∷ []) same in
+          absurd (let no : false ≡ true = ap is_letter (sym slash) ∙ (and_parts (is_letter b) (are_letters_or_digits name) h).0 in cc)
+      | inr other ↦ other
+    ]
+  where
+    second_is : (c : ℕ) (more : List ℕ) → 60 ∷ c ∷ more ≡ close_word → c ≡ 47
+    second_is c more e = cc
+
+first_not_close : (item : Item (List Array)) (rest mid : Rest) (more : List Said) (now : Rest) → ItemFits arrays_name AreArrays item → behind_all (said_item said_arrays item) rest ≡ Some mid → bytes_eq (content (next_said rest)) close_word ≡ false
+first_not_close (Special a) rest mid more now fits e =
+    let s = split_one (Literal (open_line arrays_name)) (said_behind_arrays a) rest mid e in
+    let l = behind_line (Literal (open_line arrays_name)) rest s.mid refl s.first in
+    let same : content l.line.bytes ≡ open_line arrays_name = (bytes_eq-Decides (content l.line.bytes) (open_line arrays_name)).0 l.said_is in
+    ap (λ (t : List ℕ). bytes_eq (content t) close_word) (next_is rest s.mid l.line l.read) ∙ ap (λ (t : List ℕ). bytes_eq t close_word) same
+first_not_close (Kept x) rest mid more now fits e =
+    let s = split_one (Literal (open_line x.name)) (said_to_end x.name x.lines) rest mid e in
+    let l = behind_line (Literal (open_line x.name)) rest s.mid refl s.first in
+    let same : content l.line.bytes ≡ open_line x.name = (bytes_eq-Decides (content l.line.bytes) (open_line x.name)).0 l.said_is in
+    let all = and_parts (is_extension_name x.name && not (bytes_eq x.name arrays_name)) (are_kept_lines x.name x.lines) fits in
+    let own = and_parts (is_extension_name x.name) (not (bytes_eq x.name arrays_name)) all.0 in
+    ap (λ (t : List ℕ). bytes_eq (content t) close_word) (next_is rest s.mid l.line l.read) ∙ (ap (λ (t : List ℕ). bytes_eq t close_word) same ∙ not_close x.name own.0)
+
+-- an extension takes a line at least
+item_fewer : (item : Item (List Array)) (rest mid : Rest) → behind_all (said_item said_arrays item) rest ≡ Some mid → length mid.lines < length rest.lines
+item_fewer (Special a) rest mid e =
+    let s = split_one (Literal (open_line arrays_name)) (said_behind_arrays a) rest mid e in
+    omega (arith, behind_fewer (Literal (open_line arrays_name)) rest s.mid s.first, all_fewer (said_behind_arrays a) s.mid mid s.second)
+item_fewer (Kept x) rest mid e =
+    let s = split_one (Literal (open_line x.name)) (said_to_end x.name x.lines) rest mid e in
+    omega (arith, behind_fewer (Literal (open_line x.name)) rest s.mid s.first, all_fewer (said_to_end x.name x.lines) s.mid mid s.second)
+
+abbrev pub said_to_close : List (Item (List Array)) → List Said
+said_to_close items = flat_map (said_item said_arrays) items ++ Literal close_word ∷ []
+
+close_reads : (n : ℕ) (found : Extensions (List Array)) (rest now : Rest) → behind (Literal close_word) rest ≡ Some now → globals_from n found rest ≡ Ok (found, now)
+unfolding globals_from
+close_reads zero found rest now e = rw (literal_reads close_word rest now e) refl
+close_reads (suc n) found rest now e =
+    let l = behind_line (Literal close_word) rest now refl e in
+    let end : bytes_eq (content (next_said rest)) close_word ≡ true = ap (λ (t : List ℕ). bytes_eq (content t) close_word) (next_is rest now l.line l.read) ∙ l.said_is in
+    rw (end, literal_reads close_word rest now e) refl
+
+globals_from_reads : (items : List (Item (List Array))) (n : ℕ) (found : Extensions (List Array)) (rest now : Rest) → ItemsFit arrays_name AreArrays items → follow found items ≡ true → length rest.lines ≤ n
+    → behind_all (said_to_close items) rest ≡ Some now → globals_from n found rest ≡ Ok (gathered found items, now)
+unfolding globals_from
+globals_from_reads [] n found rest now fit free enough e = close_reads n found rest now (alone_one (Literal close_word) rest now e)
+globals_from_reads (item ∷ items) zero found rest now fit free enough e =
+    let whole : behind_all (said_item said_arrays item ++ said_to_close items) rest ≡ Some now = ap (λ (l : List Said). behind_all l rest) (sym (append_assoc (said_item said_arrays item) (flat_map (said_item said_arrays) items) (Literal close_word ∷ []))) ∙ e in
+    let s = split (said_item said_arrays item) (said_to_close items) rest now whole in
+    absurd (omega (arith, item_fewer item rest s.mid s.first, enough))
+globals_from_reads (item ∷ items) (suc n) found rest now fit free enough e =
+    let whole : behind_all (said_item said_arrays item ++ said_to_close items) rest ≡ Some now = ap (λ (l : List Said). behind_all l rest) (sym (append_assoc (said_item said_arrays item) (flat_map (said_item said_arrays) items) (Literal close_word ∷ []))) ∙ e in
+    let s = split (said_item said_arrays item) (said_to_close items) rest now whole in
+    let both = and_parts (can_follow found item) (follow (with_item found item) items) free in
+    let one = item_reads arrays_name Rules.arrays said_arrays said_behind_arrays AreArrays arrays_is item found rest s.mid fit.0 both.0 s.first in
+    let more = globals_from_reads items n (with_item found item) s.mid now fit.1 both.1 (omega (arith, item_fewer item rest s.mid s.first, enough)) s.second in
+    rw (first_not_close item rest s.mid [] now fit.0 s.first, one) more
+
+-- the global extensions that were read, and the line that ends the whole
+pub record GlobalsRead (found next : Extensions (List Array)) (rest now : Rest) : Type 0 where
+  pub items : List (Item (List Array))
+  pub fit : ItemsFit arrays_name AreArrays items
+  pub free : follow found items ≡ true
+  pub next_is : next ≡ gathered found items
+  pub said : behind_all (said_to_close items) rest ≡ Some now
+
+close_said : (next found : Extensions (List Array)) (rest now : Rest) → and_then (literal close_word rest) (λ _ r. read_ok found r) ≡ Ok (next, now) → GlobalsRead found next rest now
+close_said next found rest now e =
+    let t = then_ok (literal close_word rest) (λ _ r. read_ok found r) next now e in
+    let said = literal_said close_word rest t.mid t.value t.first in
+    record { items = []; fit = tt; free = refl; next_is = sym (same_value found next t.mid now t.second); said = one_alone (Literal close_word) rest now (said ∙ ap (λ (r : Rest). Some r) (same_left found next t.mid now t.second)) }
+
+globals_from_said : (n : ℕ) (next found : Extensions (List Array)) (rest now : Rest) → are_lines rest.lines ≡ true → globals_from n found rest ≡ Ok (next, now) → GlobalsRead found next rest now
+unfolding globals_from
+globals_from_said zero next found rest now h e = close_said next found rest now e
+globals_from_said (suc n) next found rest now h e =
+    elim (if_cases (bytes_eq (content (next_said rest)) close_word) (and_then (literal close_word rest) (λ _ r. read_ok found r)) (and_then (extension arrays_name Rules.arrays found rest) (globals_from n)) (Ok (next, now)) e) [
+      | inl end ↦ close_said next found rest now end.1
+      | inr other ↦
+          let t = then_ok (extension arrays_name Rules.arrays found rest) (globals_from n) next now other.1 in
+          let one = item_said arrays_name Rules.arrays said_arrays said_behind_arrays AreArrays arrays_is t.value found rest t.mid h t.first in
+          let h1 : are_lines t.mid.lines ≡ true = all_keeps (said_item said_arrays one.item) rest t.mid one.said h in
+          let more = globals_from_said n next t.value t.mid now h1 t.second in
+          let whole : behind_all (said_item said_arrays one.item ++ said_to_close more.items) rest ≡ Some now = join (said_item said_arrays one.item) (said_to_close more.items) rest t.mid now one.said more.said in
+          record {
+            items = one.item ∷ more.items;
+            fit = (one.fits, more.fit);
+            free = and_from (can_follow found one.item) (follow (with_item found one.item) more.items) one.free (ap (λ (x : Extensions (List Array)). follow x more.items) (sym one.next_is) ∙ more.free);
+            next_is = more.next_is ∙ ap (λ (x : Extensions (List Array)). gathered x more.items) one.next_is;
+            said = ap (λ (l : List Said). behind_all l rest) (append_assoc (said_item said_arrays one.item) (flat_map (said_item said_arrays) more.items) (Literal close_word ∷ [])) ∙ whole;
+          }
+    ]
+
+pub globals_reads : (items : List (Item (List Array))) (rest now : Rest) → ItemsFit arrays_name AreArrays items → has_one_special items ≡ true → behind_all (said_to_close items) rest ≡ Some now
+    → globals rest ≡ Ok (record { special = first_special items; others = kept_items items }, now)
+unfolding globals
+globals_reads items rest now fit one e =
+    let free : follow (no_extensions {A = List Array}) items ≡ true = follow_is items ∙ one in
+    globals_from_reads items (length rest.lines) no_extensions rest now fit free (omega arith) e ∙ ap (λ (x : Extensions (List Array)). read_ok x now) (gathered_from items free)
+
+pub globals_said : (next : Extensions (List Array)) (rest now : Rest) → are_lines rest.lines ≡ true → globals rest ≡ Ok (next, now) → GlobalsRead no_extensions next rest now
+unfolding globals
+globals_said next rest now h e = globals_from_said (length rest.lines) next no_extensions rest now h e
