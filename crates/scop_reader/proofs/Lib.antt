@@ -6,4 +6,5 @@ pub mod GrammarText
 pub mod GrammarBodies
 pub mod GrammarArrays
 pub mod GrammarExtensions
+pub mod GrammarStatements
 mod Checks
