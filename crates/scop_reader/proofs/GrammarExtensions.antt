@@ -152,7 +152,7 @@ abbrev pub can_follow : {A : Type 0} → Extensions A → Item A → Bool
 can_follow found (Special a) = is_none found.special
 can_follow found (Kept x) = true
 
-if_reader : {B : Type 0} (b : Bool) (p q : Reader B) (rest : Rest) (z : Outcome B) → (if b then p else q) rest ≡ z → ((b ≡ true) × (p rest ≡ z)) ⊎ ((b ≡ false) × (q rest ≡ z))
+pub if_reader : {B : Type 0} (b : Bool) (p q : Reader B) (rest : Rest) (z : Outcome B) → (if b then p else q) rest ≡ z → ((b ≡ true) × (p rest ≡ z)) ⊎ ((b ≡ false) × (q rest ≡ z))
 if_reader true p q rest z e = inl (refl, e)
 if_reader false p q rest z e = inr (refl, e)
 

@@ -43,13 +43,13 @@ relation_count_said k n rest now e =
     let w = within_then 258 t.value.1 which.Accesses k t.mid _ n now t.second in
     subst (λ (m : ℕ). RelationCount m rest now) (same_value t.value.1 n t.mid now w.1) (record { least = line.0; few = w.0; said = line.1 ∙ ap (λ (r : Rest). Some r) (same_left t.value.1 n t.mid now w.1) })
 
-statement_count_reads : (n : ℕ) (rest now : Rest) → nat_lt 1024 n ≡ false → behind (count n) rest ≡ Some now → statement_count rest ≡ Ok (n, now)
+pub statement_count_reads : (n : ℕ) (rest now : Rest) → nat_lt 1024 n ≡ false → behind (count n) rest ≡ Some now → statement_count rest ≡ Ok (n, now)
 unfolding statement_count
 statement_count_reads n rest now few e =
     let line = count_line_reads 0 n rest now e (omega arith) in
     rw (line.1, few) refl
 
-statement_count_said : (n : ℕ) (rest now : Rest) → statement_count rest ≡ Ok (n, now) → (nat_lt 1024 n ≡ false) × (behind (count n) rest ≡ Some now)
+pub statement_count_said : (n : ℕ) (rest now : Rest) → statement_count rest ≡ Ok (n, now) → (nat_lt 1024 n ≡ false) × (behind (count n) rest ≡ Some now)
 unfolding statement_count
 statement_count_said n rest now e =
     let t = then_ok (count_line 0 rest) _ n now e in

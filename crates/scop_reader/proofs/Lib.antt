@@ -7,4 +7,5 @@ pub mod GrammarBodies
 pub mod GrammarArrays
 pub mod GrammarExtensions
 pub mod GrammarStatements
+pub mod GrammarWhole
 mod Checks
