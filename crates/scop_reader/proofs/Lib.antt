@@ -8,4 +8,5 @@ pub mod GrammarArrays
 pub mod GrammarExtensions
 pub mod GrammarStatements
 pub mod GrammarWhole
+pub mod GrammarConditions
 mod Checks
