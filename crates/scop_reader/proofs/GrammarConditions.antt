@@ -109,10 +109,10 @@ fitted role k (p ∷ ps) t =
 
 -- ---- inputs and parameters
 
-is_equal : (a b : ℕ) → (a == b) ≡ true → a ≡ b
+pub is_equal : (a b : ℕ) → (a == b) ≡ true → a ≡ b
 is_equal a b e = (Decides-eqb a b).0 e
 
-equal_is : (a b : ℕ) → a ≡ b → (a == b) ≡ true
+pub equal_is : (a b : ℕ) → a ≡ b → (a == b) ≡ true
 equal_is a b e = (Decides-eqb a b).1 e
 
 inputs_of : (ps n : ℕ) (p : System) → ((p.shape.parameters == ps) && (p.shape.inputs == n)) ≡ true → HasInputs n ps p
@@ -123,11 +123,11 @@ inputs_of ps n p e =
 inputs_back : (ps n : ℕ) (p : System) → HasInputs n ps p → ((p.shape.parameters == ps) && (p.shape.inputs == n)) ≡ true
 inputs_back ps n p h = and_from (p.shape.parameters == ps) (p.shape.inputs == n) (equal_is p.shape.parameters ps h.parameters_are) (equal_is p.shape.inputs n h.inputs_are)
 
-scattering_suits : (ps n : ℕ) (parts : List System) → AllSuit (Scattering ps n) parts → AllByRecursion (HasInputs n ps) parts
+pub scattering_suits : (ps n : ℕ) (parts : List System) → AllSuit (Scattering ps n) parts → AllByRecursion (HasInputs n ps) parts
 scattering_suits ps n [] h = tt
 scattering_suits ps n (p ∷ parts) h = (inputs_of ps n p h.0, scattering_suits ps n parts h.1)
 
-suits_scattering : (ps n : ℕ) (parts : List System) → AllByRecursion (HasInputs n ps) parts → AllSuit (Scattering ps n) parts
+pub suits_scattering : (ps n : ℕ) (parts : List System) → AllByRecursion (HasInputs n ps) parts → AllSuit (Scattering ps n) parts
 suits_scattering ps n [] h = tt
 suits_scattering ps n (p ∷ parts) h = (inputs_back ps n p h.0, suits_scattering ps n parts h.1)
 
@@ -142,7 +142,7 @@ suits_access ps n (p ∷ parts) h = (inputs_back ps n p h.0, suits_access ps n p
 low_parameters : (ps : ℕ) (p : System) → nat_lt 16 ps ≡ false → p.shape.parameters ≡ ps → nat_lt 16 p.shape.parameters ≡ false
 low_parameters ps p low e = ap (nat_lt 16) e ∙ low
 
-inputs_low : (ps n : ℕ) (parts : List System) → nat_lt 16 ps ≡ false → AllByRecursion (HasInputs n ps) parts → many_parameters parts ≡ false
+pub inputs_low : (ps n : ℕ) (parts : List System) → nat_lt 16 ps ≡ false → AllByRecursion (HasInputs n ps) parts → many_parameters parts ≡ false
 inputs_low ps n [] low h = refl
 inputs_low ps n (p ∷ parts) low h = or_from (nat_lt 16 p.shape.parameters) (many_parameters parts) (low_parameters ps p low h.0.parameters_are) (inputs_low ps n parts low h.1)
 
@@ -167,20 +167,20 @@ domain_known : (ps n : ℕ) (parts : List System) → AllByRecursion (IsDomainPa
 domain_known ps n [] h = tt
 domain_known ps n (p ∷ parts) h = (part_domain ps n p h.0, domain_known ps n parts h.1)
 
-domain_parts : (ps : ℕ) (parts : List System) → AllSuit (Domain ps None) parts → AllByRecursion (IsDomainPart (the_part parts).shape.outputs ps) parts
+pub domain_parts : (ps : ℕ) (parts : List System) → AllSuit (Domain ps None) parts → AllByRecursion (IsDomainPart (the_part parts).shape.outputs ps) parts
 domain_parts ps [] h = tt
 domain_parts ps (p ∷ parts) h =
     let own = and_parts ((p.shape.parameters == ps) && (p.shape.inputs == 0)) true h.0 in
     let both = and_parts (p.shape.parameters == ps) (p.shape.inputs == 0) own.0 in
     (record { outputs = refl; inputs = is_equal p.shape.inputs 0 both.1; parameters_are = is_equal p.shape.parameters ps both.0 }, known_domain ps p.shape.outputs parts h.1)
 
-parts_domain : (ps : ℕ) (parts : List System) → AllByRecursion (IsDomainPart (the_part parts).shape.outputs ps) parts → AllSuit (Domain ps None) parts
+pub parts_domain : (ps : ℕ) (parts : List System) → AllByRecursion (IsDomainPart (the_part parts).shape.outputs ps) parts → AllSuit (Domain ps None) parts
 parts_domain ps [] h = tt
 parts_domain ps (p ∷ parts) h =
     (and_from ((p.shape.parameters == ps) && (p.shape.inputs == 0)) true
         (and_from (p.shape.parameters == ps) (p.shape.inputs == 0) (equal_is p.shape.parameters ps h.0.parameters_are) (equal_is p.shape.inputs 0 h.0.inputs)) refl, domain_known ps p.shape.outputs parts h.1)
 
-domain_low : (ps n : ℕ) (parts : List System) → nat_lt 16 ps ≡ false → AllByRecursion (IsDomainPart n ps) parts → many_parameters parts ≡ false
+pub domain_low : (ps n : ℕ) (parts : List System) → nat_lt 16 ps ≡ false → AllByRecursion (IsDomainPart n ps) parts → many_parameters parts ≡ false
 domain_low ps n [] low h = refl
 domain_low ps n (p ∷ parts) low h = or_from (nat_lt 16 p.shape.parameters) (many_parameters parts) (low_parameters ps p low h.0.parameters_are) (domain_low ps n parts low h.1)
 

@@ -9,4 +9,5 @@ pub mod GrammarExtensions
 pub mod GrammarStatements
 pub mod GrammarWhole
 pub mod GrammarConditions
+pub mod GrammarProper
 mod Checks
