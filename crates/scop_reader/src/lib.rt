@@ -13,7 +13,9 @@ mod number_words;
 mod part_rules;
 mod relation_rules;
 mod roles;
+mod scop_rules;
 mod statement_rules;
 mod text_lines;
 
 pub use roles::Role;
+pub use scop_rules::read_pieces;
