@@ -1,15 +1,14 @@
 -- A global extension takes a line at least, so the loop over them ends.
-use Rattle.std.proofs.Common.{◌≡◌, refl, sym, ap, ◌∙◌, ℕ, ℤ, zero, suc, ◌≤◌, ◌<◌, ◌+◌, ◌==◌, if◌then◌else◌, List, [], ◌∷◌, ◌++◌, length, Option, Some, None, Result, Ok, Err, Bool, true, false, inl, inr, arith}
+use Rattle.std.proofs.Common.{◌≡◌, ap, ℕ, ℤ, zero, suc, ◌≤◌, ◌<◌, ◌+◌, ◌==◌, if◌then◌else◌, List, [], ◌∷◌, ◌++◌, length, Option, Some, None, Result, Ok, Err, Bool, true, false, inl, inr, arith}
 use Rattle.std.specs.Str.{bytes_eq}
 use Rattle.suite_base.specs.declared.refusals.Refusal.{Refusal}
 use Rattle.suite_base.specs.declared.refusals.Refusal.TheVariants.{BadScop}
 use Rattle.suite_base.specs.declared.refusals.Which.TheVariants.{Arrays}
 use Rattle.suite_base.specs.Lines.{trim}
 use Rattle.suite_base.specs.Words.{content}
-use Rattle.suite_base.proofs.LineCuts.{bool_tells}
 use Rattle.scop_core.specs.Printable.{end_line, arrays_name, has_no_array}
 use Rattle.scop_reader.specs.Lines.{Rest, Line, behind_silent, words_of}
-use Rattle.scop_reader.specs.Reading.{Reader, ◌>>=◌, and_then, pure, check, unless, of_result, said_line, first_line, closing, numbers_in, at_least}
+use Rattle.scop_reader.specs.Reading.{Reader, ◌>>=◌, pure, check, unless, of_result, said_line, first_line, closing, numbers_in, at_least}
 use Rattle.scop_reader.specs.Rules.{Extensions, within, number_line, count_line, first_number, array_of, array_line, arrays_from, arrays, kept_from, kept_lines, kept, extension, is_opening, opened_name, is_none}
 use Rattle.scop_reader.proofs.GrammarLines.{then_ok, if_cases, same_left, silent_fewer}
 

@@ -1,14 +1,13 @@
 -- The rule of the global extensions has a count of turns that the loop has not: enough of them are left.
-use Rattle.std.proofs.Common.{◌≡◌, refl, sym, ap, ◌∙◌, ℕ, ℤ, zero, suc, ◌≤◌, ◌<◌, List, [], ◌∷◌, length, Some, None, Result, Ok, Err, Bool, true, false, arith}
+use Rattle.std.proofs.Common.{◌≡◌, refl, sym, ap, ◌∙◌, ℕ, ℤ, zero, suc, ◌≤◌, ◌<◌, List, [], ◌∷◌, length, Result, Ok, Err, true, false, arith}
 use Rattle.std.specs.Str.{bytes_eq}
 use Rattle.suite_base.specs.declared.refusals.Fail.{Fail}
 use Rattle.suite_base.specs.declared.refusals.Fail.TheVariants as fail
 use Rattle.suite_base.specs.declared.refusals.Refusal.{Refusal}
-use Rattle.suite_base.specs.declared.refusals.Refusal.TheVariants.{BadScop}
 use Rattle.suite_base.specs.Words.{content}
 use Rattle.scop_core.specs.Printable.{arrays_name}
-use Rattle.scop_reader.specs.Lines.{Rest, behind_silent}
-use Rattle.scop_reader.specs.Reading.{Reader, Outcome, ◌>>=◌, ◌>>◌, and_then, pure, said_line, next_said, literal, Reads, ReadsTo}
+use Rattle.scop_reader.specs.Lines.{Rest}
+use Rattle.scop_reader.specs.Reading.{Outcome, ◌>>◌, and_then, pure, said_line, next_said, literal, Reads, ReadsTo}
 use Rattle.scop_reader.specs.Rules.{Extensions, no_extensions, extension, arrays, globals, globals_from, close_word}
 
 abbrev pub Globals : Type 0

@@ -1,11 +1,11 @@
 -- One line more before the one that opens a SCoP.
-use Rattle.std.proofs.Common.{◌≡◌, ℕ, true, false, List, [], ◌∷◌, ◌+◌, refl, sym, ap, ◌∙◌, Option, Some, None, Ok, Err}
+use Rattle.std.proofs.Common.{◌≡◌, ℕ, true, false, List, [], ◌∷◌, refl, sym, ap, ◌∙◌, Option, Some, None, Ok, Err}
 use Rattle.std.specs.Str.{bytes_eq}
 use Rattle.std.proofs.lemmas.Slice.Eq.{bytes_eq-Decides}
 use Rattle.suite_base.specs.declared.refusals.Refusal.{Refusal}
 use Rattle.suite_base.specs.declared.refusals.Refusal.TheVariants.{BadScop, SecondScop}
 use Rattle.suite_base.specs.Words.{content}
-use Rattle.scop_reader.specs.Lines.{Rest, Line, TakesLine, is_silent, is_empty, behind_silent}
+use Rattle.scop_reader.specs.Lines.{Rest, Line, TakesLine, is_silent, is_empty}
 use Rattle.scop_reader.specs.Reading.{literal, said_line}
 use Rattle.scop_reader.specs.Rules.{from_open, open_word, opening, no_second}
 

@@ -1,8 +1,7 @@
-use Rattle.std.proofs.Common.{◌≡◌, ◌∙◌, sym, true, false}
+use Rattle.std.proofs.Common.{◌≡◌, ◌∙◌, sym, false}
 use Rattle.std.proofs.lemmas.Result.{err_from_is_err_and}
 use Rattle.std.specs.Str.{bytes_eq}
 use Rattle.suite_base.specs.Words.{content}
-use Rattle.scop_reader.specs.Lines.{Rest}
 use Rattle.scop_reader.specs.Reading.{next_said, literal}
 use Rattle.scop_reader.specs.Rules.{extensions_of, close_word, globals}
 use Rattle.scop_reader.proofs.GlobalTurns.{Globals, begins, closes, closed, one_more_global, fails}
