@@ -8,5 +8,6 @@ pub mod RunLaws
 pub mod SolvedForms
 pub mod SolvedShapes
 pub mod Assemblies
+pub mod Validities
 mod LayoutChecks
 mod Checks

@@ -1,7 +1,7 @@
 -- When pieces can be printed and read back: names that are words, texts that keep to their lines, relations
 -- with the shapes that a text gives them.
-use Rattle.std.specs.Prelude.{ℤ, pos, ℕ, ◌≡◌, Bool, true, false, not, ◌&&◌, ◌||◌, ◌==◌, nat_le, List, [], ◌∷◌, ◌++◌, length, reverse, IfSome, All, codes}
-use Rattle.std.specs.Ordering.{int_eq, int_le}
+use Rattle.std.specs.Prelude.{ℤ, pos, ℕ, ◌≡◌, Bool, true, false, not, ◌&&◌, ◌||◌, ◌==◌, nat_le, int_le, List, [], ◌∷◌, ◌++◌, length, reverse, IfSome, All, codes}
+use Rattle.std.specs.Ordering.{int_eq}
 use Rattle.std.specs.Str.{bytes_eq}
 use Rattle.suite_base.specs.Lines.{trim}
 use Rattle.suite_base.specs.Words.{begins_word, is_word, spaced}

@@ -1,8 +1,9 @@
 //! A whole SCoP. Its fields are private: each is made by `assemble`, which checks it.
 
-ghost use Rattle.std.specs.Prelude.{◌≡◌, ◌<◌, length, ◌≤◌, slice_get, None, All, MatchOption, IsSomeAnd, OnSome, OnOk, IfOk, IfErr};
+ghost use Rattle.std.specs.Prelude.{◌≡◌, ◌<◌, length, ◌≤◌, slice_get, None, true, All, MatchOption, IsSomeAnd, OnSome, OnOk, IfOk, IfErr};
 ghost use Rattle.std.specs.Option.{option_copied};
 ghost use Rattle.scop_core.specs.Assembly.{first_unsolved, solved_statements, early_refusal_of, refusal_of, scop_of, HasCause, HasShapes};
+ghost use Rattle.scop_core.specs.Printable.{IsPrintable, arrays_name, is_kept};
 ghost use Rattle.scop_core.specs.ScopData.{arrays_of, extended};
 ghost use Rattle.scop_core.specs.Validity.{HasRelations, IsValid};
 
@@ -74,12 +75,12 @@ fn solved(alloc: Global, pieces: &ScopPieces) -> Result<List<Statement>, NoMemor
 }
 
 impl Scop {
-    /// The SCoP of these pieces. It needs the relations and the body of each statement to fit its
-    /// iterators and the parameters. It refuses by the first limit that is passed, of the whole and
+    /// The SCoP of these pieces, which need to be such that they can be printed and read back. It
+    /// refuses by the first limit that is passed, of the whole and
     /// then of the first statement; then by the first statement that is not in solved form; then by
     /// the first statement whose beta vector clashes with that of one before it.
     pub fn assemble(alloc: Global, pieces: ScopPieces) -> Result<Scop, Fail>
-        requires { All (HasShapes pieces.context.shape.parameters) pieces.statements }
+        requires printable { IsPrintable pieces }
         ensures none { OnOk result (refusal_of pieces ≡ None) }
         ensures scop { IfOk result (λ scop. scop ≡ scop_of pieces) }
         ensures cause { IfErr result (HasCause (refusal_of pieces)) }
@@ -119,9 +120,10 @@ impl Scop {
         })
     }
 
-    /// The SCoP without its extensions of the same name, and with this one behind the others. On
-    /// want of memory the SCoP comes back unchanged.
+    /// The SCoP without its extensions of the same name, and with this one behind the others. The
+    /// extension needs a name other than `arrays` and lines none of which ends it. On want of memory the SCoP comes back unchanged.
     pub fn with_extension(self, extension: Extension) -> Result<Scop, (Scop, NoMemory)>
+        requires printable { is_kept arrays_name extension ≡ true }
         ensures ok { IfOk result (λ scop. scop ≡ extended self extension) }
         ensures err { IfErr result (λ back. back.0 ≡ self) }
     {
