@@ -61,7 +61,7 @@ pub accesses_left : (xs : List (AccessKind × List System)) (i : ℕ) (x : Acces
 accesses_left xs i x h e s =
     let t : (is_one is_access x.1 && are_solved (drop (i + 1) xs)) ≡ true = sym (ap are_solved (item_drop xs i x h e)) ∙ s in (both _ _ t).1
 
-unsolved_first : (k : ℕ) (raw : RawStatement) (raws : List RawStatement) → first_unsolved k (raw ∷ raws) ≡ None → (is_solved raw ≡ true) × (first_unsolved (k + 1) raws ≡ None)
+pub unsolved_first : (k : ℕ) (raw : RawStatement) (raws : List RawStatement) → first_unsolved k (raw ∷ raws) ≡ None → (is_solved raw ≡ true) × (first_unsolved (k + 1) raws ≡ None)
 unsolved_first k raw raws h =
     elim (is_solved raw) as (λ t. is_solved raw ≡ t → (if t then first_unsolved (k + 1) raws else Some (NotSolved k)) ≡ None → (t ≡ true) × (first_unsolved (k + 1) raws ≡ None))
     [ true ↦ λ e g. (refl, g) | false ↦ λ e g. cc ] refl h
