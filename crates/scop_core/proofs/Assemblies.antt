@@ -40,7 +40,7 @@ access_pushed d p parts h made new one e own inputs before =
     let own_dp : HasAccessRelation d p one = subst (λ n. HasAccessRelation d n one) here.parameters_are own_d in
     rw e (All-push (HasAccessRelation d p) made one before own_dp)
 
-item_drop : {X : Type 0} (xs : List X) (i : ℕ) (x : X) → i < length xs → x ≡ get_or xs i x → drop i xs ≡ x ∷ drop (i + 1) xs
+pub item_drop : {X : Type 0} (xs : List X) (i : ℕ) (x : X) → i < length xs → x ≡ get_or xs i x → drop i xs ≡ x ∷ drop (i + 1) xs
 item_drop [] i x h e = absurd (omega arith)
 item_drop (y ∷ xs) zero x h e = ap (λ t. t ∷ xs) (sym e)
 item_drop (y ∷ xs) (suc i) x h e = rw add-one (rw add-one at (item_drop xs i x (omega arith) e))

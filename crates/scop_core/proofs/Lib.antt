@@ -9,6 +9,7 @@ pub mod SolvedForms
 pub mod SolvedShapes
 pub mod Assemblies
 pub mod Validities
+pub mod Arrays
 pub mod ClashFree
 pub mod KeptLimits
 mod LayoutChecks

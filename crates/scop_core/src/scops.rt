@@ -7,11 +7,11 @@ ghost use Rattle.scop_core.specs.Printable.{IsPrintable, arrays_name, is_kept};
 ghost use Rattle.scop_core.specs.ScopData.{arrays_of, extended};
 ghost use Rattle.scop_core.specs.Validity.{HasRelations, IsValid};
 
+use crate::array_tables::{ArrayTable, copied_table, table_of};
 use crate::assembling::{statements_from, unsolved_statement};
 use crate::clashes::statements_clash;
 use crate::copies::{
-    copied_array_list, copied_extensions, copied_names, copied_part, copied_statements,
-    copied_text, extensions_with,
+    copied_extensions, copied_names, copied_part, copied_statements, copied_text, extensions_with,
 };
 use crate::limits::{pieces_limit, statements_limit};
 use crate::raw_pieces::ScopPieces;
@@ -29,7 +29,7 @@ pub struct Scop {
     context: Part,
     parameters: Option<List<Text>>,
     statements: List<Statement>,
-    arrays: Option<List<(Coeff, Text)>>,
+    arrays: Option<ArrayTable>,
     extensions: List<Extension>,
 }
 
@@ -94,14 +94,17 @@ impl Scop {
             Err(NoMemory) => Err(Fail::Memory),
             Ok(statements) => match statements_clash(statements.as_slice()) {
                 Some(refusal) => Err(Fail::Refused(refusal)),
-                None => Ok(Scop {
-                    language: pieces.language,
-                    context: pieces.context,
-                    parameters: pieces.parameters,
-                    statements,
-                    arrays: pieces.arrays,
-                    extensions: pieces.extensions,
-                }),
+                None => match table_of(alloc, &pieces.arrays) {
+                    Err(NoMemory) => Err(Fail::Memory),
+                    Ok(arrays) => Ok(Scop {
+                        language: pieces.language,
+                        context: pieces.context,
+                        parameters: pieces.parameters,
+                        statements,
+                        arrays,
+                        extensions: pieces.extensions,
+                    }),
+                },
             },
         }
     }
@@ -115,7 +118,7 @@ impl Scop {
             context: copied_part(alloc, &self.context)?,
             parameters: copied_names(alloc, &self.parameters)?,
             statements: copied_statements(alloc, self.statements.as_slice())?,
-            arrays: copied_array_list(alloc, &self.arrays)?,
+            arrays: copied_table(alloc, &self.arrays)?,
             extensions: copied_extensions(alloc, self.extensions.as_slice())?,
         })
     }
@@ -215,10 +218,7 @@ impl Scop {
     {
         match &self.arrays {
             None => None,
-            Some(arrays) => match arrays.get(k) {
-                None => None,
-                Some(array) => Some((array.0, &array.1)),
-            },
+            Some(arrays) => arrays.get(k),
         }
     }
 
