@@ -8,5 +8,9 @@ pub mod RunLaws
 pub mod SolvedForms
 pub mod SolvedShapes
 pub mod Assemblies
+pub mod Validities
+pub mod Arrays
+pub mod ClashFree
+pub mod KeptLimits
 mod LayoutChecks
 mod Checks

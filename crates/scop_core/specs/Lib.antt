@@ -1,4 +1,5 @@
 pub mod Assembly
+pub mod KeptLimits
 pub mod Layouts
 pub mod Meaning
 pub mod Memory

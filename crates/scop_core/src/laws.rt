@@ -1,6 +1,7 @@
 //! The laws of stamps, runs and memories, for every SCoP: functions that do nothing, and whose
 //! contracts are the laws.
 
+ghost use Rattle.scop_core.specs.KeptLimits.{ValidScopsHaveValidSchedules, ValidScopsKeepLimits};
 ghost use Rattle.scop_core.specs.Theorems.{FloorIsGreatest, BeforeIsTransitive, BeforeIsIrreflexive, StampsAreOrdered, StatementsAreOrdered, RunIsUnique, StepsCommute, ReorderingKeepsMemory, RunHasNoTies, KeptConflictsKeepMemory};
 
 /// The value of a floor is the greatest integer not above its quotient, for negative ones too.
@@ -51,4 +52,14 @@ pub fn run_has_no_ties()
 /// An order of the instances of a run that keeps the order of every conflict gives the run's memory.
 pub fn kept_conflicts_keep_memory()
     ensures { KeptConflictsKeepMemory }
+{}
+
+/// The schedules of a valid SCoP are valid, so that the laws of stamps hold of it.
+pub fn schedules_are_valid()
+    ensures { ValidScopsHaveValidSchedules }
+{}
+
+/// A valid SCoP keeps all limits: of the whole and of each statement.
+pub fn limits_are_kept()
+    ensures { ValidScopsKeepLimits }
 {}
