@@ -8,5 +8,9 @@ pub mod RunLaws
 pub mod SolvedForms
 pub mod SolvedShapes
 pub mod Assemblies
+pub mod ReadBackLists
+pub mod ReadBackParts
+pub mod ReadBackRows
+pub mod ReadBackSolved
 mod LayoutChecks
 mod Checks

@@ -1,6 +1,7 @@
 //! The laws of stamps, runs and memories, for every SCoP: functions that do nothing, and whose
 //! contracts are the laws.
 
+ghost use Rattle.scop_core.specs.SolvedLaws.{ScheduleReadsBack, AccessReadsBack};
 ghost use Rattle.scop_core.specs.Theorems.{FloorIsGreatest, BeforeIsTransitive, BeforeIsIrreflexive, StampsAreOrdered, StatementsAreOrdered, RunIsUnique, StepsCommute, ReorderingKeepsMemory, RunHasNoTies, KeptConflictsKeepMemory};
 
 /// The value of a floor is the greatest integer not above its quotient, for negative ones too.
@@ -51,4 +52,16 @@ pub fn run_has_no_ties()
 /// An order of the instances of a run that keeps the order of every conflict gives the run's memory.
 pub fn kept_conflicts_keep_memory()
     ensures { KeptConflictsKeepMemory }
+{}
+
+/// The rows that a schedule in solved form is printed as are a scattering in solved form, and read
+/// as that schedule.
+pub fn schedule_reads_back()
+    ensures { ScheduleReadsBack }
+{}
+
+/// The rows that an access in solved form is printed as are an access relation in solved form, and
+/// read as that access.
+pub fn access_reads_back()
+    ensures { AccessReadsBack }
 {}

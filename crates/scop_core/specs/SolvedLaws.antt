@@ -1,0 +1,17 @@
+-- The laws of the solved form: what is printed reads back, and means what its rows mean.
+use Rattle.std.specs.Prelude.{◌≡◌, ℕ, true}
+use Rattle.scop_core.specs.declared.schedules.Schedule.{Schedule}
+use Rattle.scop_core.specs.declared.accesses.Access.{Access}
+use Rattle.scop_core.specs.SolvedForm.{is_scattering, schedule_of, is_access, access_of}
+use Rattle.scop_core.specs.SolvedRows.{schedule_part, access_part}
+use Rattle.scop_core.specs.ReadBack.{IsSolvedSchedule, IsSolvedAccess}
+
+-- the rows of a schedule are a scattering in solved form, and that schedule
+abbrev pub ScheduleReadsBack : Type 0
+ScheduleReadsBack = (iterators parameters : ℕ) (schedule : Schedule) → IsSolvedSchedule iterators parameters schedule
+    → (is_scattering (schedule_part iterators parameters schedule) ≡ true) × (schedule_of (schedule_part iterators parameters schedule) ≡ schedule)
+
+-- the rows of an access are an access relation in solved form, and that access
+abbrev pub AccessReadsBack : Type 0
+AccessReadsBack = (iterators parameters : ℕ) (access : Access) → IsSolvedAccess iterators parameters access
+    → (is_access (access_part iterators parameters access) ≡ true) × (access_of access.kind (access_part iterators parameters access) ≡ access)
