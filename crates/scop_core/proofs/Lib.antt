@@ -7,6 +7,7 @@ pub mod Stamps
 pub mod RunLaws
 pub mod SolvedForms
 pub mod SolvedShapes
+pub mod SolvedPieces
 pub mod Assemblies
 pub mod ReadBackLists
 pub mod ReadBackParts

@@ -1,8 +1,8 @@
 -- Lists of coefficients in pieces: slices, entries, weights, and the one row that passes a test.
-use Rattle.std.proofs.Common.{◌≡◌, ◌⊎◌, inl, inr, ℕ, zero, suc, ◌+◌, ◌-◌, ◌*◌, ◌<◌, ◌≤◌, Bool, true, false, ◌&&◌, List, [], ◌∷◌, ◌++◌, length, take, drop, set, get_or, map, replicate, ℤ, pos, negsuc, ◌+ℤ◌, neg_ℤ, ◌≤ℤ◌, ◌<ℤ◌, unsigned_abs, refl, ap, sym, ◌∙◌, subst, arith, add-one, add-zero, zero-add, suc-add, append_assoc}
-use Rattle.std.specs.Prelude.{slice_range, ◌==◌, int_lt, int_le, not, count_by, cond}
+use Rattle.std.proofs.Common.{◌≡◌, ◌⊎◌, inl, inr, ℕ, zero, suc, ◌+◌, ◌-◌, ◌<◌, ◌≤◌, Bool, true, false, ◌&&◌, List, [], ◌∷◌, ◌++◌, length, take, drop, set, map, ℤ, pos, negsuc, ◌+ℤ◌, neg_ℤ, unsigned_abs, refl, ap, sym, ◌∙◌, subst, arith, add-one, add-zero, zero-add, suc-add}
+use Rattle.std.specs.Prelude.{slice_range, ◌==◌, count_by, cond}
 use Rattle.std.proofs.lemmas.Int.{ints}
-use Rattle.std.proofs.lemmas.List.{length-append, length-map, length-drop, length-replicate, length-set, get_or_append_left, get_or-append-add, get_or-set_same, get_or-set_other, get_or-drop, get_or-replicate, drop-append-le, drop-set-lt, set-set, set-get_or, set_split}
+use Rattle.std.proofs.lemmas.List.{length-append, length-drop, length-replicate, length-set, get_or_append_left, get_or-append-add, get_or-set_same, get_or-set_other, drop-append-le, set-set, set-get_or, set_split}
 use Rattle.std.proofs.Math.Seq.{drop_at, take_at, drop-append-add}
 use Rattle.std.proofs.lemmas.List.Recursion.{is_count_by}
 use Rattle.scop_core.proofs.SolvedShapes.{both}

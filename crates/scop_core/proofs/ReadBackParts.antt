@@ -1,10 +1,9 @@
 -- A part made of the rows of values and of floors gives these values and floors.
-use Rattle.std.proofs.Common.{◌≡◌, ◌⊎◌, inl, inr, ℕ, zero, suc, ◌+◌, ◌-◌, ◌*◌, ◌<◌, ◌≤◌, Bool, true, false, ◌&&◌, List, [], ◌∷◌, ◌++◌, length, take, drop, get_or, map, ℤ, pos, negsuc, ◌+ℤ◌, neg_ℤ, ◌≤ℤ◌, ◌<ℤ◌, unsigned_abs, refl, ap, sym, ◌∙◌, subst, arith, add-zero}
-use Rattle.std.specs.Prelude.{slice_range, ◌==◌, int_lt, int_le, not, All, if◌then◌else◌}
+use Rattle.std.proofs.Common.{◌≡◌, inl, inr, ℕ, zero, suc, ◌+◌, ◌<◌, ◌≤◌, Bool, true, false, List, [], ◌∷◌, ◌++◌, length, get_or, map, ℤ, pos, negsuc, ◌+ℤ◌, neg_ℤ, ◌≤ℤ◌, refl, ap, sym, ◌∙◌, subst, arith}
+use Rattle.std.specs.Prelude.{slice_range, int_lt, int_le, All, if◌then◌else◌}
 use Rattle.std.proofs.lemmas.Int.{ints}
 use Rattle.std.proofs.lemmas.List.{length-map, length-replicate}
 use Rattle.std.proofs.lemmas.List.Elements.{All-head, All-tail}
-use Rattle.std.specs.Ordering.{int_eq}
 use Rattle.std.proofs.lemmas.Bool.Decides.{Decides-int_eq}
 use Rattle.row_core.specs.Rows.{entry}
 use Rattle.relation_core.specs.Systems.{System, columns}
@@ -13,10 +12,10 @@ use Rattle.relation_core.specs.declared.part_rows.PartRow.{PartRow}
 use Rattle.scop_core.specs.declared.affines.Affine.{Affine}
 use Rattle.scop_core.specs.declared.schedules.Floor.{Floor}
 use Rattle.scop_core.specs.SolvedRows.{zeros, with_columns, raised, value_row, value_rows, low_row, high_row, floor_rows, HasSizes}
-use Rattle.scop_core.specs.SolvedForm.{local_column, are_formed, is_output_row, is_low_row, is_high_row, affine_of, cleared, are_opposite, is_pair, each_below, value_at, floor_at, size_at, output_row, low_row_of, high_row_of, has_output, has_floor}
+use Rattle.scop_core.specs.SolvedForm.{local_column, are_formed, is_output_row, is_low_row, is_high_row, affine_of, cleared, are_opposite, is_pair, each_below, value_at, floor_at, high_row_of, has_output, has_floor}
 use Rattle.scop_core.specs.ReadBack.{UsesEarlier}
 use Rattle.scop_core.proofs.SolvedShapes.{both}
-use Rattle.scop_core.proofs.ReadBackLists.{true_if, and_true, raised_here, raised_other, length_raised, cleared_raised, negative_entry, weight_zeros, opposite, opposite_append, opposite_zeros, Nowhere, Only, only_counted, only_first, nowhere_append, only_left, only_right}
+use Rattle.scop_core.proofs.ReadBackLists.{true_if, and_true, raised_here, raised_other, length_raised, cleared_raised, negative_entry, weight_zeros, opposite, opposite_append, opposite_zeros, Nowhere, Only, only_counted, only_first, only_left, only_right}
 use Rattle.scop_core.proofs.ReadBackRows.{Fits, Leads, affine_piece, constant_piece, before_constant, cleared_piece, value_fits, value_formed, value_entry, value_here, value_other, entry_here, low_here, low_other, high_here, high_other, bound_formed}
 
 -- a floor of a part of this shape, at place k

@@ -1,15 +1,15 @@
 -- The tests of the solved form on rows that are given in pieces.
-use Rattle.std.proofs.Common.{◌≡◌, ◌⊎◌, inl, inr, ℕ, zero, suc, ◌+◌, ◌-◌, ◌*◌, ◌<◌, ◌≤◌, Bool, true, false, ◌&&◌, List, [], ◌∷◌, ◌++◌, length, take, drop, get_or, map, ℤ, pos, negsuc, ◌+ℤ◌, neg_ℤ, ◌≤ℤ◌, ◌<ℤ◌, unsigned_abs, refl, ap, sym, ◌∙◌, subst, arith, append_assoc}
-use Rattle.std.specs.Prelude.{slice_range, ◌==◌, int_lt, int_le, not}
-use Rattle.std.proofs.lemmas.Int.{ints, by_lt_z}
-use Rattle.std.proofs.lemmas.List.{length-append, length-drop, get_or_append_left, get_or-drop}
+use Rattle.std.proofs.Common.{◌≡◌, ◌⊎◌, inl, inr, ℕ, zero, suc, ◌+◌, ◌-◌, ◌<◌, ◌≤◌, Bool, true, false, ◌&&◌, List, [], ◌∷◌, ◌++◌, length, drop, ℤ, pos, negsuc, ◌<ℤ◌, unsigned_abs, refl, ap, sym, ◌∙◌, arith, append_assoc}
+use Rattle.std.specs.Prelude.{slice_range, ◌==◌, int_lt, not}
+use Rattle.std.proofs.lemmas.Int.{ints}
+use Rattle.std.proofs.lemmas.List.{length-append, get_or_append_left, get_or-drop}
 use Rattle.row_core.specs.Rows.{entry}
 use Rattle.relation_core.specs.Systems.{columns}
 use Rattle.relation_core.specs.declared.shapes.Shape.{Shape}
 use Rattle.relation_core.specs.declared.part_rows.PartRow.{PartRow}
-use Rattle.relation_core.specs.declared.part_rows.RowKind.TheVariants.{Equal, AtLeast}
+use Rattle.relation_core.specs.declared.part_rows.RowKind.TheVariants.{AtLeast}
 use Rattle.scop_core.specs.declared.affines.Affine.{Affine}
-use Rattle.scop_core.specs.SolvedRows.{zeros, unit, with_columns, value_row, HasSizes}
+use Rattle.scop_core.specs.SolvedRows.{unit, with_columns, value_row, HasSizes}
 use Rattle.scop_core.specs.SolvedForm.{weight, outputs_of, local_column, locals_from, is_formed, is_output_row, is_local_row, is_low_row, is_high_row, affine_of, cleared}
 use Rattle.scop_core.proofs.ReadBackLists.{true_if, false_if, and_true, and_false, same_number, other_number, middle, middle_from, middle_entry, cleared_middle, entry_weight, weightless, weight_unit, length_unit, entry_unit, entry_unit_other}
 

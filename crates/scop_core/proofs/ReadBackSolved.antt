@@ -1,26 +1,24 @@
 -- The rows of a schedule and of an access in solved form read back.
-use Rattle.std.proofs.Common.{◌≡◌, ◌⊎◌, inl, inr, ℕ, zero, suc, ◌+◌, ◌-◌, ◌*◌, ◌/◌, ◌%◌, ◌<◌, ◌≤◌, Bool, true, false, ◌&&◌, List, [], ◌∷◌, ◌++◌, length, get_or, ℤ, pos, ◌≤ℤ◌, refl, ap, sym, ◌∙◌, subst, arith, add-zero, zero-add}
+use Rattle.std.proofs.Common.{◌≡◌, ℕ, zero, suc, ◌+◌, ◌-◌, ◌*◌, ◌/◌, ◌%◌, ◌<◌, ◌≤◌, true, List, [], ◌∷◌, ◌++◌, length, get_or, ℤ, pos, ◌≤ℤ◌, refl, ap, sym, ◌∙◌, subst, arith, add-zero, zero-add}
 use Rattle.std.proofs.Common.{one-add}
 use Rattle.std.proofs.lemmas.List.{append-nil}
 use Rattle.std.proofs.lemmas.Bool.Decides.{nat_tests}
-use Rattle.std.specs.Prelude.{int_le, nat_le, All, ◌==◌}
+use Rattle.std.specs.Prelude.{int_le, nat_le, All}
 use Rattle.std.proofs.lemmas.Int.{ints}
 use Rattle.std.proofs.lemmas.List.{length-replicate}
 use Rattle.std.proofs.lemmas.List.Elements.{All-head, All-tail, All-cons}
 use Rattle.relation_core.specs.Systems.{System}
 use Rattle.relation_core.specs.declared.shapes.Shape.{Shape}
-use Rattle.relation_core.specs.declared.part_rows.PartRow.{PartRow}
 use Rattle.scop_core.specs.declared.affines.Affine.{Affine}
 use Rattle.scop_core.specs.declared.schedules.Floor.{Floor}
 use Rattle.scop_core.specs.declared.schedules.Schedule.{Schedule}
-use Rattle.scop_core.specs.declared.accesses.AccessKind.{AccessKind}
 use Rattle.scop_core.specs.declared.accesses.Access.{Access}
 use Rattle.scop_core.specs.SolvedRows.{zeros, constant_row, value_row, dimension_rows, value_rows, floor_rows, schedule_shape, schedule_part, access_shape, access_part, HasSizes}
-use Rattle.scop_core.specs.SolvedForm.{weight, each_below, value_at, floor_at, is_constant, has_beta, is_scattering, levels_from, betas_from, floors_from, schedule_of, are_equalities, is_access, values_from, access_of}
+use Rattle.scop_core.specs.SolvedForm.{each_below, value_at, floor_at, is_constant, has_beta, is_scattering, levels_from, betas_from, floors_from, schedule_of, are_equalities, is_access, values_from, access_of}
 use Rattle.scop_core.specs.ReadBack.{UsesEarlier, IsSolvedSchedule, IsSolvedAccess}
 use Rattle.scop_core.specs.SolvedLaws.{ScheduleReadsBack, AccessReadsBack}
 use Rattle.scop_core.proofs.ReadBackLists.{true_if, and_true, same_number, weight_zeros}
-use Rattle.scop_core.proofs.ReadBackParts.{FloorFits, FloorsFit, rows_part, Gives, gives, each_if}
+use Rattle.scop_core.proofs.ReadBackParts.{FloorsFit, rows_part, Gives, gives, each_if}
 
 -- a constant as an affine value
 abbrev constant_value : Shape → ℤ → Affine

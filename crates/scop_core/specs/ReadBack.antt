@@ -1,5 +1,5 @@
 -- When a schedule or an access is what its own rows say, and the pieces that a SCoP is printed as.
-use Rattle.std.specs.Prelude.{ℤ, pos, ◌≤ℤ◌, ℕ, ◌≡◌, ◌<◌, ◌≤◌, All, length, get_or}
+use Rattle.std.specs.Prelude.{pos, ◌≤ℤ◌, ℕ, ◌≡◌, ◌<◌, ◌≤◌, All, length, get_or}
 use Rattle.row_core.specs.Rows.{entry}
 use Rattle.scop_core.specs.declared.schedules.Floor.{Floor}
 use Rattle.scop_core.specs.declared.schedules.Schedule.{Schedule}

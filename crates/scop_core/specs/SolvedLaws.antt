@@ -1,6 +1,8 @@
 -- The laws of the solved form: what is printed reads back, and means what its rows mean.
 use Rattle.std.specs.Prelude.{◌≡◌, ℕ, true}
+use Rattle.relation_core.specs.Systems.{System, IsWellFormed}
 use Rattle.scop_core.specs.declared.schedules.Schedule.{Schedule}
+use Rattle.scop_core.specs.declared.accesses.AccessKind.{AccessKind}
 use Rattle.scop_core.specs.declared.accesses.Access.{Access}
 use Rattle.scop_core.specs.SolvedForm.{is_scattering, schedule_of, is_access, access_of}
 use Rattle.scop_core.specs.SolvedRows.{schedule_part, access_part}
@@ -15,3 +17,13 @@ ScheduleReadsBack = (iterators parameters : ℕ) (schedule : Schedule) → IsSol
 abbrev pub AccessReadsBack : Type 0
 AccessReadsBack = (iterators parameters : ℕ) (access : Access) → IsSolvedAccess iterators parameters access
     → (is_access (access_part iterators parameters access) ≡ true) × (access_of access.kind (access_part iterators parameters access) ≡ access)
+
+-- the schedule of a scattering in solved form can be printed, and is in solved form
+abbrev pub ScatteringIsSolved : Type 0
+ScatteringIsSolved = (part : System) → IsWellFormed part.shape part.rows → is_scattering part ≡ true
+    → IsSolvedSchedule part.shape.inputs part.shape.parameters (schedule_of part)
+
+-- the access of an access relation in solved form can be printed, and is in solved form
+abbrev pub AccessIsSolved : Type 0
+AccessIsSolved = (kind : AccessKind) (part : System) → IsWellFormed part.shape part.rows → is_access part ≡ true
+    → IsSolvedAccess part.shape.inputs part.shape.parameters (access_of kind part)

@@ -1,7 +1,7 @@
 //! The laws of stamps, runs and memories, for every SCoP: functions that do nothing, and whose
 //! contracts are the laws.
 
-ghost use Rattle.scop_core.specs.SolvedLaws.{ScheduleReadsBack, AccessReadsBack};
+ghost use Rattle.scop_core.specs.SolvedLaws.{ScheduleReadsBack, AccessReadsBack, ScatteringIsSolved, AccessIsSolved};
 ghost use Rattle.scop_core.specs.Theorems.{FloorIsGreatest, BeforeIsTransitive, BeforeIsIrreflexive, StampsAreOrdered, StatementsAreOrdered, RunIsUnique, StepsCommute, ReorderingKeepsMemory, RunHasNoTies, KeptConflictsKeepMemory};
 
 /// The value of a floor is the greatest integer not above its quotient, for negative ones too.
@@ -64,4 +64,15 @@ pub fn schedule_reads_back()
 /// read as that access.
 pub fn access_reads_back()
     ensures { AccessReadsBack }
+{}
+
+/// The schedule that a scattering in solved form is has sizes of at least 1, and floors that use
+/// earlier floors alone.
+pub fn scattering_is_solved()
+    ensures { ScatteringIsSolved }
+{}
+
+/// The access that an access relation in solved form is has an identifier of at least 1.
+pub fn access_is_solved()
+    ensures { AccessIsSolved }
 {}
