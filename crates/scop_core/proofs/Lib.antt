@@ -11,6 +11,8 @@ pub mod SolvedPieces
 pub mod Assemblies
 pub mod ReadBackLists
 pub mod ReadBackParts
+pub mod ReadBackNames
+pub mod ReadBackPieces
 pub mod ReadBackRows
 pub mod ReadBackSolved
 mod LayoutChecks

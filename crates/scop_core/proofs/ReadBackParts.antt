@@ -101,9 +101,10 @@ values_formed shape k (v ∷ values) h sizes =
 values_nowhere : (shape : Shape) (k t : ℕ) (values : List Affine) → t < k → k + length values ≤ shape.outputs
     → All (HasSizes shape.inputs shape.locals shape.parameters) values → Nowhere (is_output_row t) (value_rows shape k values)
 values_nowhere shape k t [] l h sizes = tt
-values_nowhere shape k t (v ∷ values) l h sizes =
-    (value_other shape k t v (omega arith) (omega arith) (λ e. omega arith) (All-head (HasSizes shape.inputs shape.locals shape.parameters) v values sizes),
-    values_nowhere shape (k + 1) t values (omega arith) (omega arith) (All-tail (HasSizes shape.inputs shape.locals shape.parameters) v values sizes))
+values_nowhere shape k t (v ∷ values) l h sizes = (
+  value_other shape k t v (omega arith) (omega arith) (λ e. omega arith) (All-head (HasSizes shape.inputs shape.locals shape.parameters) v values sizes),
+  values_nowhere shape (k + 1) t values (omega arith) (omega arith) (All-tail (HasSizes shape.inputs shape.locals shape.parameters) v values sizes),
+)
 
 values_only : (shape : Shape) (k j t : ℕ) (values : List Affine) (d : Affine) → t ≡ k + j → j < length values → k + length values ≤ shape.outputs
     → All (HasSizes shape.inputs shape.locals shape.parameters) values
@@ -111,12 +112,16 @@ values_only : (shape : Shape) (k j t : ℕ) (values : List Affine) (d : Affine) 
 values_only shape k j t [] d e l h sizes = absurd (omega arith)
 values_only shape k zero t (v ∷ values) d e l h sizes =
     let same : k ≡ t = omega arith in
-    inl (subst (λ m. is_output_row m (value_row shape k v) ≡ true) same (value_here shape k v (omega arith) (All-head (HasSizes shape.inputs shape.locals shape.parameters) v values sizes)),
-    ap (λ m. value_row shape m v) same,
-    values_nowhere shape (k + 1) t values (omega arith) (omega arith) (All-tail (HasSizes shape.inputs shape.locals shape.parameters) v values sizes))
+    inl (
+      subst (λ m. is_output_row m (value_row shape k v) ≡ true) same (value_here shape k v (omega arith) (All-head (HasSizes shape.inputs shape.locals shape.parameters) v values sizes)),
+      ap (λ m. value_row shape m v) same,
+      values_nowhere shape (k + 1) t values (omega arith) (omega arith) (All-tail (HasSizes shape.inputs shape.locals shape.parameters) v values sizes),
+    )
 values_only shape k (suc j) t (v ∷ values) d e l h sizes =
-    inr (value_other shape k t v (omega arith) (omega arith) (λ f. omega arith) (All-head (HasSizes shape.inputs shape.locals shape.parameters) v values sizes),
-    values_only shape (k + 1) j t values d (omega arith) (omega arith) (omega arith) (All-tail (HasSizes shape.inputs shape.locals shape.parameters) v values sizes))
+    inr (
+      value_other shape k t v (omega arith) (omega arith) (λ f. omega arith) (All-head (HasSizes shape.inputs shape.locals shape.parameters) v values sizes),
+      values_only shape (k + 1) j t values d (omega arith) (omega arith) (omega arith) (All-tail (HasSizes shape.inputs shape.locals shape.parameters) v values sizes),
+    )
 
 values_low : (shape : Shape) (k t : ℕ) (values : List Affine) → Nowhere (is_low_row shape t) (value_rows shape k values)
 values_low shape k t [] = tt
@@ -181,25 +186,35 @@ floors_low : (shape : Shape) (k j t : ℕ) (floors : List Floor) (d : Floor) →
 floors_low shape k j t [] d e l h fits = absurd (omega arith)
 floors_low shape k zero t (floor ∷ floors) d e l h fits =
     let same : k ≡ t = omega arith in
-    inl (subst (λ m. is_low_row shape m (low_row shape k floor) ≡ true) same (low_row_here shape k floor fits.0),
-    ap (λ m. low_row shape m floor) same,
-    (high_is_not_low shape k t floor fits.0 h, floors_low_nowhere shape (k + 1) t floors (omega arith) h fits.1))
+    inl (
+      subst (λ m. is_low_row shape m (low_row shape k floor) ≡ true) same (low_row_here shape k floor fits.0),
+      ap (λ m. low_row shape m floor) same,
+      (high_is_not_low shape k t floor fits.0 h, floors_low_nowhere shape (k + 1) t floors (omega arith) h fits.1),
+    )
 floors_low shape k (suc j) t (floor ∷ floors) d e l h fits =
-    inr (low_row_other shape k t floor fits.0 h (λ f. omega arith),
-    inr (high_is_not_low shape k t floor fits.0 h, floors_low shape (k + 1) j t floors d (omega arith) (omega arith) h fits.1))
+    inr (
+      low_row_other shape k t floor fits.0 h (λ f. omega arith),
+      inr (high_is_not_low shape k t floor fits.0 h, floors_low shape (k + 1) j t floors d (omega arith) (omega arith) h fits.1),
+    )
 
 floors_high : (shape : Shape) (k j t : ℕ) (floors : List Floor) (d : Floor) → t ≡ k + j → j < length floors → t < shape.locals → FloorsFit shape k floors
     → Only (is_high_row shape t) (floor_rows shape k floors) (high_row shape t (get_or floors j d))
 floors_high shape k j t [] d e l h fits = absurd (omega arith)
 floors_high shape k zero t (floor ∷ floors) d e l h fits =
     let same : k ≡ t = omega arith in
-    inr (low_is_not_high shape k t floor fits.0 h,
-    inl (subst (λ m. is_high_row shape m (high_row shape k floor) ≡ true) same (high_row_here shape k floor fits.0),
-    ap (λ m. high_row shape m floor) same,
-    floors_high_nowhere shape (k + 1) t floors (omega arith) h fits.1))
+    inr (
+      low_is_not_high shape k t floor fits.0 h,
+      inl (
+        subst (λ m. is_high_row shape m (high_row shape k floor) ≡ true) same (high_row_here shape k floor fits.0),
+        ap (λ m. high_row shape m floor) same,
+        floors_high_nowhere shape (k + 1) t floors (omega arith) h fits.1,
+      ),
+    )
 floors_high shape k (suc j) t (floor ∷ floors) d e l h fits =
-    inr (low_is_not_high shape k t floor fits.0 h,
-    inr (high_row_other shape k t floor fits.0 h (λ f. omega arith), floors_high shape (k + 1) j t floors d (omega arith) (omega arith) h fits.1))
+    inr (
+      low_is_not_high shape k t floor fits.0 h,
+      inr (high_row_other shape k t floor fits.0 h (λ f. omega arith), floors_high shape (k + 1) j t floors d (omega arith) (omega arith) h fits.1),
+    )
 
 fit_at : (shape : Shape) (k j t : ℕ) (floors : List Floor) (d : Floor) → t ≡ k + j → j < length floors → FloorsFit shape k floors → FloorFits shape t (get_or floors j d)
 fit_at shape k j t [] d e l fits = absurd (omega arith)
@@ -277,12 +292,12 @@ floor_in_row shape k floor fit =
 pub gives : (shape : Shape) (values : List Affine) (floors : List Floor) → length values ≡ shape.outputs → length floors ≡ shape.locals
     → All (HasSizes shape.inputs shape.locals shape.parameters) values → FloorsFit shape 0 floors → Gives (rows_part shape values floors) values floors
 gives shape values floors ev ef sizes fits = record {
-      formed = formed_append shape _ _ (values_formed shape 0 values (omega arith) sizes) (floors_formed shape 0 floors fits);
-      outputs = each_if _ shape.outputs (λ k h. only_counted _ rows _ (output k none h));
-      locals = each_if _ shape.locals has;
-      value_is = value_is;
-      floor_is = floor_is;
-    }
+  formed = formed_append shape _ _ (values_formed shape 0 values (omega arith) sizes) (floors_formed shape 0 floors fits);
+  outputs = each_if _ shape.outputs (λ k h. only_counted _ rows _ (output k none h));
+  locals = each_if _ shape.locals has;
+  value_is = value_is;
+  floor_is = floor_is;
+}
   where
     rows : List PartRow
     rows = value_rows shape 0 values ++ floor_rows shape 0 floors

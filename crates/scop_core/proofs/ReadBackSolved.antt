@@ -121,15 +121,16 @@ floors_fit : (shape : Shape) (k : ℕ) (floors : List Floor) → k + length floo
     → All (λ floor. HasSizes shape.inputs shape.locals shape.parameters floor.value) floors → All (λ floor. pos 1 ≤ℤ floor.size) floors
     → ((j : ℕ) (d : Floor) → j < length floors → UsesEarlier (k + j) (get_or floors j d)) → FloorsFit shape k floors
 floors_fit shape k [] h sizes big earlier = tt
-floors_fit shape k (floor ∷ floors) h sizes big earlier =
-    (record {
-      within = omega arith;
-      sizes = sizes 0 floor (omega arith);
-      size = big 0 floor (omega arith);
-      earlier = subst (λ m. UsesEarlier m floor) (add-zero k) (earlier 0 floor (omega arith));
-    },
-    floors_fit shape (k + 1) floors (omega arith) (λ j d l. sizes (suc j) d (omega arith)) (λ j d l. big (suc j) d (omega arith))
-    (λ j d l. subst (λ m. UsesEarlier m (get_or floors j d)) (sym (next_place k j)) (earlier (suc j) d (omega arith))))
+floors_fit shape k (floor ∷ floors) h sizes big earlier = (
+  record {
+    within = omega arith;
+    sizes = sizes 0 floor (omega arith);
+    size = big 0 floor (omega arith);
+    earlier = subst (λ m. UsesEarlier m floor) (add-zero k) (earlier 0 floor (omega arith));
+  },
+  floors_fit shape (k + 1) floors (omega arith) (λ j d l. sizes (suc j) d (omega arith)) (λ j d l. big (suc j) d (omega arith))
+      (λ j d l. subst (λ m. UsesEarlier m (get_or floors j d)) (sym (next_place k j)) (earlier (suc j) d (omega arith))),
+)
 
 abbrev schedule_values : ℕ → ℕ → Schedule → List Affine
 schedule_values i p s = dimensions (schedule_shape i p s) s.betas s.levels

@@ -100,7 +100,7 @@ pub later_zero : (part : System) (k j : ℕ) → has_floor part k ≡ true → k
     → entry (low_row_of part k).entries (local_column part.shape j) ≡ pos 0
 later_zero part k j h l g =
     let row = (low_row_of part k).entries in
-    let passes = only_passes _ _ _ (low_only part k h) in
+    let passes : is_low_row part.shape k (low_row_of part k) ≡ true = only_passes _ _ _ (low_only part k h) in
     let light : weight (locals_from part.shape (k + 1) row) ≡ 0 = (Decides-eqb _ 0).0 (both _ _ (both _ _ passes).0).1 in
     let zero_at : entry (locals_from part.shape (k + 1) row) (j - (k + 1)) ≡ pos 0 = no_entry (locals_from part.shape (k + 1) row) light (j - (k + 1)) in
     let place : local_column part.shape (k + 1) + (j - (k + 1)) ≡ local_column part.shape j = omega arith in
@@ -130,14 +130,15 @@ floor_earlier part k l h j g = by (split j part.shape.locals)
         slice_entry (cleared (low_row_of part k).entries (local_column part.shape k)) (local_column part.shape 0) (local_column part.shape part.shape.locals) j (omega arith)
         ∙ (ap (λ r. entry r (local_column part.shape 0 + j)) (cleared_is (low_row_of part k).entries (local_column part.shape k) w)
         ∙ elim c [
-            inl e ↦ ap (λ m. entry (set (low_row_of part k).entries (local_column part.shape k) (pos 0)) m) (omega arith)
-                ∙ get_or-set_same (low_row_of part k).entries (local_column part.shape k) (pos 0) (pos 0) w
+          | inl e ↦ ap (λ m. entry (set (low_row_of part k).entries (local_column part.shape k) (pos 0)) m) (omega arith)
+              ∙ get_or-set_same (low_row_of part k).entries (local_column part.shape k) (pos 0) (pos 0) w
           | inr o ↦ get_or-set_other (low_row_of part k).entries (local_column part.shape k) (local_column part.shape 0 + j) (pos 0) (pos 0) (λ e. omega arith)
-                ∙ (ap (λ m. entry (low_row_of part k).entries m) (omega arith) ∙ later_zero part k j h o m) ])
+              ∙ (ap (λ m. entry (low_row_of part k).entries m) (omega arith) ∙ later_zero part k j h o m)
+        ])
 
     by : (j < part.shape.locals) ⊎ (part.shape.locals ≤ j) → entry (floor_at part k).value.floors j ≡ pos 0
     by (inl m) =
-        let passes = only_passes _ _ _ (low_only part k h) in
+        let passes : is_low_row part.shape k (low_row_of part k) ≡ true = only_passes _ _ _ (low_only part k h) in
         let negative : int_lt (entry (low_row_of part k).entries (local_column part.shape k)) (pos 0) ≡ true = (both _ _ passes).1 in
         inside m (is_within (low_row_of part k).entries (local_column part.shape k) (λ e. omega (arith, ints))) (same k j g)
     by (inr m) = take_past _ (drop (local_column part.shape 0) (cleared (low_row_of part k).entries (local_column part.shape k))) j (omega arith)

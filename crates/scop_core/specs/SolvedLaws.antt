@@ -1,12 +1,17 @@
 -- The laws of the solved form: what is printed reads back, and means what its rows mean.
-use Rattle.std.specs.Prelude.{◌≡◌, ℕ, true}
+use Rattle.std.specs.Prelude.{◌≡◌, ℕ, true, None}
 use Rattle.relation_core.specs.Systems.{System, IsWellFormed}
 use Rattle.scop_core.specs.declared.schedules.Schedule.{Schedule}
 use Rattle.scop_core.specs.declared.accesses.AccessKind.{AccessKind}
 use Rattle.scop_core.specs.declared.accesses.Access.{Access}
+use Rattle.scop_core.specs.declared.raw_pieces.ScopPieces.{ScopPieces}
+use Rattle.scop_core.specs.ScopData.{ScopData}
 use Rattle.scop_core.specs.SolvedForm.{is_scattering, schedule_of, is_access, access_of}
 use Rattle.scop_core.specs.SolvedRows.{schedule_part, access_part}
-use Rattle.scop_core.specs.ReadBack.{IsSolvedSchedule, IsSolvedAccess}
+use Rattle.scop_core.specs.Assembly.{refusal_of, scop_of}
+use Rattle.scop_core.specs.Printable.{IsPrintable}
+use Rattle.scop_core.specs.Validity.{IsValid}
+use Rattle.scop_core.specs.ReadBack.{IsSolvedSchedule, IsSolvedAccess, ReadBack}
 
 -- the rows of a schedule are a scattering in solved form, and that schedule
 abbrev pub ScheduleReadsBack : Type 0
@@ -27,3 +32,7 @@ ScatteringIsSolved = (part : System) → IsWellFormed part.shape part.rows → i
 abbrev pub AccessIsSolved : Type 0
 AccessIsSolved = (kind : AccessKind) (part : System) → IsWellFormed part.shape part.rows → is_access part ≡ true
     → IsSolvedAccess part.shape.inputs part.shape.parameters (access_of kind part)
+
+-- a SCoP that printable pieces give without a refusal is what its own pieces give, and these can be printed
+abbrev pub PiecesReadBack : Type 0
+PiecesReadBack = (pieces : ScopPieces) (scop : ScopData) → IsPrintable pieces → refusal_of pieces ≡ None → scop ≡ scop_of pieces → IsValid scop → ReadBack scop

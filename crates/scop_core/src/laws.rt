@@ -1,7 +1,7 @@
 //! The laws of stamps, runs and memories, for every SCoP: functions that do nothing, and whose
 //! contracts are the laws.
 
-ghost use Rattle.scop_core.specs.SolvedLaws.{ScheduleReadsBack, AccessReadsBack, ScatteringIsSolved, AccessIsSolved};
+ghost use Rattle.scop_core.specs.SolvedLaws.{ScheduleReadsBack, AccessReadsBack, ScatteringIsSolved, AccessIsSolved, PiecesReadBack};
 ghost use Rattle.scop_core.specs.Theorems.{FloorIsGreatest, BeforeIsTransitive, BeforeIsIrreflexive, StampsAreOrdered, StatementsAreOrdered, RunIsUnique, StepsCommute, ReorderingKeepsMemory, RunHasNoTies, KeptConflictsKeepMemory};
 
 /// The value of a floor is the greatest integer not above its quotient, for negative ones too.
@@ -75,4 +75,9 @@ pub fn scattering_is_solved()
 /// The access that an access relation in solved form is has an identifier of at least 1.
 pub fn access_is_solved()
     ensures { AccessIsSolved }
+{}
+
+/// A SCoP that printable pieces give without a refusal is what the pieces that it is printed as give.
+pub fn pieces_read_back()
+    ensures { PiecesReadBack }
 {}
