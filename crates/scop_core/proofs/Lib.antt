@@ -8,6 +8,9 @@ pub mod RunLaws
 pub mod SolvedForms
 pub mod SolvedShapes
 pub mod SolvedPieces
+pub mod SolvedDots
+pub mod SolvedRowMeanings
+pub mod SolvedMeanings
 pub mod Assemblies
 pub mod ReadBackLists
 pub mod ReadBackParts

@@ -277,3 +277,6 @@ only_left test (row ∷ a) b r (inr h) g = inr (h.0, only_left test a b r h.1 g)
 pub only_right : (test : PartRow → Bool) (a b : List PartRow) (r : PartRow) → Nowhere test a → Only test b r → Only test (a ++ b) r
 only_right test [] b r h g = g
 only_right test (row ∷ a) b r h g = inr (h.0, only_right test a b r h.1 g)
+
+pub length_cleared : (row : List ℤ) (k : ℕ) → k < length row → length (cleared row k) ≡ length row
+length_cleared row k h = ap length (cleared_is row k h) ∙ length-set row k (pos 0)

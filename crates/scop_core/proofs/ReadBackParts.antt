@@ -271,7 +271,7 @@ formed_append : (shape : Shape) (a b : List PartRow) → are_formed shape a ≡ 
 formed_append shape [] b h g = g
 formed_append shape (row ∷ a) b h g = let p = both _ _ h in and_true _ _ p.0 (formed_append shape a b p.1 g)
 
-abbrev value_in : Shape → ℕ → PartRow → Affine
+abbrev pub value_in : Shape → ℕ → PartRow → Affine
 value_in shape k row = affine_of shape (if int_lt (pos 0) (entry row.entries k) then map neg_ℤ row.entries else row.entries)
 
 value_in_row : (shape : Shape) (k : ℕ) (v : Affine) → k < shape.outputs → HasSizes shape.inputs shape.locals shape.parameters v

@@ -33,7 +33,7 @@ third o i f p c = append_assoc ((o ++ i) ++ f) p (c ∷ [])
 second : (o i f p : List ℤ) (c : ℤ) → with_columns o i f p c ≡ (o ++ i) ++ (f ++ (p ++ c ∷ []))
 second o i f p c = third o i f p c ∙ append_assoc (o ++ i) f (p ++ c ∷ [])
 
-first : (o i f p : List ℤ) (c : ℤ) → with_columns o i f p c ≡ o ++ (i ++ (f ++ (p ++ c ∷ [])))
+pub first : (o i f p : List ℤ) (c : ℤ) → with_columns o i f p c ≡ o ++ (i ++ (f ++ (p ++ c ∷ [])))
 first o i f p c = second o i f p c ∙ append_assoc o i (f ++ (p ++ c ∷ []))
 
 pub outputs_piece : (shape : Shape) (o i f p : List ℤ) (c : ℤ) → Fits shape o i f p → outputs_of shape (with_columns o i f p c) ≡ o

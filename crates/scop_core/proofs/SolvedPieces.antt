@@ -37,7 +37,7 @@ row_range part r formed h k =
 length_slice : (row : List ℤ) (a b : ℕ) → a ≤ b → b ≤ length row → length (slice_range row a b) ≡ b - a
 length_slice row a b h g = length-take-le (b - a) (drop a row) (omega (arith, length-drop a row))
 
-slice_entry : (row : List ℤ) (a b k : ℕ) → a + k < b → entry (slice_range row a b) k ≡ entry row (a + k)
+pub slice_entry : (row : List ℤ) (a b k : ℕ) → a + k < b → entry (slice_range row a b) k ≡ entry row (a + k)
 slice_entry row a b k h = get_or-take (b - a) (drop a row) k (pos 0) (omega arith) ∙ get_or-drop a row k (pos 0)
 
 take_past : (n : ℕ) (row : List ℤ) (k : ℕ) → n ≤ k → entry (take n row) k ≡ pos 0
@@ -107,7 +107,7 @@ later_zero part k j h l g =
     ap (λ m. entry row m) (sym place)
     ∙ (sym (slice_entry row (local_column part.shape (k + 1)) (local_column part.shape part.shape.locals) (j - (k + 1)) (omega arith)) ∙ zero_at)
 
-floor_earlier : (part : System) (k : ℕ) → k < part.shape.locals → has_floor part k ≡ true → UsesEarlier k (floor_at part k)
+pub floor_earlier : (part : System) (k : ℕ) → k < part.shape.locals → has_floor part k ≡ true → UsesEarlier k (floor_at part k)
 floor_earlier part k l h j g = by (split j part.shape.locals)
   where
     row : List ℤ

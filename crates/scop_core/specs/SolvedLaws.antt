@@ -1,5 +1,6 @@
 -- The laws of the solved form: what is printed reads back, and means what its rows mean.
-use Rattle.std.specs.Prelude.{◌≡◌, ℕ, true, None}
+use Rattle.std.specs.Prelude.{◌≡◌, ◌↔◌, ℕ, ℤ, true, None, List, ◌∷◌, length}
+use Rattle.relation_core.specs.Points.{LiesIn}
 use Rattle.relation_core.specs.Systems.{System, IsWellFormed}
 use Rattle.scop_core.specs.declared.schedules.Schedule.{Schedule}
 use Rattle.scop_core.specs.declared.accesses.AccessKind.{AccessKind}
@@ -10,6 +11,8 @@ use Rattle.scop_core.specs.SolvedForm.{is_scattering, schedule_of, is_access, ac
 use Rattle.scop_core.specs.SolvedRows.{schedule_part, access_part}
 use Rattle.scop_core.specs.Assembly.{refusal_of, scop_of}
 use Rattle.scop_core.specs.Printable.{IsPrintable}
+use Rattle.scop_core.specs.Memory.{Cell}
+use Rattle.scop_core.specs.Meaning.{stamp_of, use_at}
 use Rattle.scop_core.specs.Validity.{IsValid}
 use Rattle.scop_core.specs.ReadBack.{IsSolvedSchedule, IsSolvedAccess, ReadBack}
 
@@ -36,3 +39,19 @@ AccessIsSolved = (kind : AccessKind) (part : System) → IsWellFormed part.shape
 -- a SCoP that printable pieces give without a refusal is what its own pieces give, and these can be printed
 abbrev pub PiecesReadBack : Type 0
 PiecesReadBack = (pieces : ScopPieces) (scop : ScopData) → IsPrintable pieces → refusal_of pieces ≡ None → scop ≡ scop_of pieces → IsValid scop → ReadBack scop
+
+-- the outputs that the rows of a scattering allow are the stamp of its schedule, with floors as greatest integers
+abbrev pub SolvedScheduleMeansItsRelation : Type 0
+SolvedScheduleMeansItsRelation = (part : System) → IsWellFormed part.shape part.rows → is_scattering part ≡ true → (y x n : List ℤ)
+    → length y ≡ part.shape.outputs → length x ≡ part.shape.inputs → length n ≡ part.shape.parameters
+    → LiesIn part y x n ↔ (y ≡ stamp_of (schedule_of part) x n)
+
+-- a cell as a list: the identifier of its array, then its subscripts
+abbrev pub cell_list : Cell → List ℤ
+cell_list cell = cell.array ∷ cell.subscripts
+
+-- the outputs that the rows of an access relation allow are the cell that its access uses
+abbrev pub SolvedAccessMeansItsRelation : Type 0
+SolvedAccessMeansItsRelation = (kind : AccessKind) (part : System) → IsWellFormed part.shape part.rows → is_access part ≡ true → (y x n : List ℤ)
+    → length y ≡ part.shape.outputs → length x ≡ part.shape.inputs → length n ≡ part.shape.parameters
+    → LiesIn part y x n ↔ (y ≡ cell_list (use_at x n (access_of kind part)).cell)

@@ -1,7 +1,7 @@
 //! The laws of stamps, runs and memories, for every SCoP: functions that do nothing, and whose
 //! contracts are the laws.
 
-ghost use Rattle.scop_core.specs.SolvedLaws.{ScheduleReadsBack, AccessReadsBack, ScatteringIsSolved, AccessIsSolved, PiecesReadBack};
+ghost use Rattle.scop_core.specs.SolvedLaws.{ScheduleReadsBack, AccessReadsBack, ScatteringIsSolved, AccessIsSolved, PiecesReadBack, SolvedScheduleMeansItsRelation, SolvedAccessMeansItsRelation};
 ghost use Rattle.scop_core.specs.Theorems.{FloorIsGreatest, BeforeIsTransitive, BeforeIsIrreflexive, StampsAreOrdered, StatementsAreOrdered, RunIsUnique, StepsCommute, ReorderingKeepsMemory, RunHasNoTies, KeptConflictsKeepMemory};
 
 /// The value of a floor is the greatest integer not above its quotient, for negative ones too.
@@ -80,4 +80,15 @@ pub fn access_is_solved()
 /// A SCoP that printable pieces give without a refusal is what the pieces that it is printed as give.
 pub fn pieces_read_back()
     ensures { PiecesReadBack }
+{}
+
+/// The outputs that the rows of a scattering in solved form allow are the stamp of its schedule.
+pub fn solved_schedule_means_its_relation()
+    ensures { SolvedScheduleMeansItsRelation }
+{}
+
+/// The outputs that the rows of an access relation in solved form allow are the cell that its access
+/// uses: the identifier of the array, then the subscripts.
+pub fn solved_access_means_its_relation()
+    ensures { SolvedAccessMeansItsRelation }
 {}
