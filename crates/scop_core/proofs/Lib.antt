@@ -18,5 +18,6 @@ pub mod ReadBackNames
 pub mod ReadBackPieces
 pub mod ReadBackRows
 pub mod ReadBackSolved
+mod SolvedChecks
 mod LayoutChecks
 mod Checks

@@ -36,6 +36,13 @@ same_number a b e = (Decides-eqb a b).1 e
 pub other_number : (a b : ℕ) → (a ≡ b → ⊥) → (a == b) ≡ false
 other_number a b h = false_if (a == b) (λ e. h ((Decides-eqb a b).0 e))
 
+-- of two places one is before the other, or they are one
+pub apart : (t k : ℕ) → (t < k) ⊎ ((t ≡ k) ⊎ (k < t))
+apart zero zero = inr (inl refl)
+apart zero (suc k) = inl (omega arith)
+apart (suc t) zero = inr (inr (omega arith))
+apart (suc t) (suc k) = elim (apart t k) [ inl h ↦ inl (omega arith) | inr (inl e) ↦ inr (inl (ap suc e)) | inr (inr h) ↦ inr (inr (omega arith)) ]
+
 -- a piece in the middle
 pub middle : (a b c : List ℤ) (i j : ℕ) → length a ≡ i → i + length b ≡ j → slice_range (a ++ (b ++ c)) i j ≡ b
 middle a b c i j ea ej = ap (λ r. take (j - i) r) (drop_at a (b ++ c) i ea) ∙ take_at b c (j - i) (omega arith)

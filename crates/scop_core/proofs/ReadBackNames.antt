@@ -1,19 +1,19 @@
 -- The body that a statement without one gets can be printed.
-use Rattle.std.proofs.Common.{◌≡◌, ◌⊎◌, inl, inr, ℕ, zero, suc, ◌+◌, ◌<◌, ◌≤◌, ◌^◌, Bool, true, false, ◌&&◌, List, [], ◌∷◌, ◌++◌, length, refl, ap, sym, ◌∙◌, arith}
+use Rattle.std.proofs.Common.{◌≡◌, ℕ, zero, suc, ◌+◌, ◌<◌, ◌≤◌, ◌^◌, true, false, List, [], ◌∷◌, length, refl, ap, ◌∙◌, arith}
 use Rattle.std.specs.Prelude.{◌==◌, ◌||◌, not, nat_le}
 use mathlib.Core.List.{reverse_aux}
 use Rattle.std.specs.Fmt.{decimal}
 use Rattle.std.specs.Str.{bytes_eq}
 use Rattle.std.proofs.lemmas.Bool.Decides.{nat_tests}
 use Rattle.suite_base.specs.Lines.{is_blank}
-use Rattle.suite_base.specs.Words.{begins_word, unbroken, is_word, spaced}
+use Rattle.suite_base.specs.Words.{begins_word, unbroken, spaced}
 use Rattle.suite_base.specs.Numbers.{is_digit, all_digits, are_digits}
 use Rattle.suite_base.proofs.NumberLaws.{decimal_digits}
 use Rattle.scop_core.specs.declared.statements.Body.{Body}
-use Rattle.scop_core.specs.Printable.{has_no, is_plain, is_name, are_names, end_line, body_name, is_body_line, is_body}
+use Rattle.scop_core.specs.Printable.{has_no, is_name, are_names, end_line, body_name, is_body_line, is_body}
 use Rattle.scop_core.specs.Assembly.{default_names}
 use Rattle.scop_core.proofs.SolvedShapes.{both}
-use Rattle.scop_core.proofs.ReadBackLists.{true_if, false_if, and_true, other_number}
+use Rattle.scop_core.proofs.ReadBackLists.{and_true, other_number}
 
 -- the default body of statement number k with n iterators
 abbrev pub default_body : ℕ → ℕ → Body

@@ -1,10 +1,9 @@
 -- The pieces of a SCoP that came from printable pieces can be printed, and give that SCoP again.
-use Rattle.std.proofs.Common.{◌≡◌, ◌⊎◌, inl, inr, ℕ, zero, suc, ◌+◌, ◌-◌, ◌*◌, ◌/◌, ◌%◌, ◌<◌, ◌≤◌, ◌^◌, Bool, true, false, ◌&&◌, List, [], ◌∷◌, ◌++◌, length, get_or, map, Option, None, Some, ℤ, refl, ap, sym, ◌∙◌, subst, arith}
+use Rattle.std.proofs.Common.{◌≡◌, ◌⊎◌, inl, inr, ℕ, suc, ◌+◌, ◌-◌, ◌*◌, ◌/◌, ◌<◌, ◌≤◌, Bool, true, false, List, [], ◌∷◌, length, map, Option, None, Some, ℤ, refl, ap, sym, ◌∙◌, subst, arith}
 use Rattle.std.specs.Prelude.{All, IfSome, ◌||◌, nat_lt, if◌then◌else◌}
 use Rattle.std.proofs.lemmas.List.{length-append, length-map}
 use Rattle.std.proofs.lemmas.List.Elements.{All-nil, All-head, All-tail, All-cons, All-map}
 use Rattle.std.proofs.lemmas.Bool.Decides.{Decides-ltb}
-use Rattle.suite_base.specs.declared.refusals.Refusal.{Refusal}
 use Rattle.relation_core.specs.Systems.{System}
 use Rattle.relation_core.specs.declared.shapes.Shape.{Shape}
 use Rattle.scop_core.specs.declared.affines.Affine.{Affine}
@@ -19,16 +18,16 @@ use Rattle.scop_core.specs.declared.statements.Statement.{Statement}
 use Rattle.scop_core.specs.declared.raw_pieces.RawStatement.{RawStatement}
 use Rattle.scop_core.specs.declared.raw_pieces.ScopPieces.{ScopPieces}
 use Rattle.scop_core.specs.ScopData.{ScopData}
-use Rattle.scop_core.specs.SolvedRows.{dimension_rows, value_rows, floor_rows, schedule_shape, schedule_rows, schedule_part, access_shape, access_rows, access_part, HasRelation, HasAccessRelation}
-use Rattle.scop_core.specs.SolvedForm.{is_scattering, is_access, schedule_of, access_of, values_from}
-use Rattle.scop_core.specs.Assembly.{or_else, count_of, some_above, accesses_above, statement_above, accesses_many, has_many_parts, whole_limit, statement_limit, first_limit, is_one, the_part, are_solved, is_solved, first_unsolved, iterators_of, default_names, body_from, solved_accesses, solved_statement, solved_statements, first_clash, early_refusal_of, refusal_of, scop_of, HasInputs, HasNames, HasShapes}
-use Rattle.scop_core.specs.Printable.{is_body, has_part, IsDomainPart, IsPrintableStatement, IsPrintable}
+use Rattle.scop_core.specs.SolvedRows.{dimension_rows, value_rows, floor_rows, schedule_shape, schedule_part, access_shape, access_part, HasAccessRelation}
+use Rattle.scop_core.specs.SolvedForm.{is_scattering, is_access, schedule_of, access_of}
+use Rattle.scop_core.specs.Assembly.{or_else, count_of, some_above, accesses_above, statement_above, accesses_many, has_many_parts, whole_limit, statement_limit, first_limit, is_one, the_part, are_solved, is_solved, first_unsolved, iterators_of, body_from, solved_accesses, solved_statement, solved_statements, first_clash, refusal_of, scop_of, HasInputs, HasShapes}
+use Rattle.scop_core.specs.Printable.{is_body, has_part, IsPrintableStatement, IsPrintable}
 use Rattle.scop_core.specs.Validity.{HasRelations, IsValid}
 use Rattle.scop_core.specs.ReadBack.{IsSolvedSchedule, IsSolvedAccess, access_piece, statement_pieces, pieces_of, ReadBack}
 use Rattle.scop_core.specs.SolvedLaws.{PiecesReadBack}
-use Rattle.scop_core.proofs.SolvedShapes.{both, scattering_odd, access_outputs}
+use Rattle.scop_core.proofs.SolvedShapes.{both}
 use Rattle.scop_core.proofs.SolvedPieces.{length_floors, length_levels, length_betas, length_values, solved_of_relation, access_of_relation}
-use Rattle.scop_core.proofs.ReadBackLists.{true_if, false_if, and_true}
+use Rattle.scop_core.proofs.ReadBackLists.{false_if, and_true, apart}
 use Rattle.scop_core.proofs.ReadBackNames.{default_is_body, default_count}
 use Rattle.scop_core.proofs.ReadBackSolved.{schedule_reads_back, access_reads_back}
 
@@ -57,16 +56,12 @@ or_false true b e f = absurd (cc)
 or_false false b e f = f
 
 at_most : (a b : ℕ) → nat_lt a b ≡ false → b ≤ a
-at_most a b h = by (split a b)
+at_most a b h = by (apart a b)
   where
-    split : (a b : ℕ) → (a < b) ⊎ (b ≤ a)
-    split a zero = inr (omega arith)
-    split zero (suc b) = inl (omega arith)
-    split (suc a) (suc b) = elim (split a b) [ inl h ↦ inl (omega arith) | inr h ↦ inr (omega arith) ]
-
-    by : (a < b) ⊎ (b ≤ a) → b ≤ a
+    by : (a < b) ⊎ ((a ≡ b) ⊎ (b < a)) → b ≤ a
     by (inl l) = let t : nat_lt a b ≡ true = (Decides-ltb a b).1 l in absurd (cc)
-    by (inr l) = l
+    by (inr (inl e)) = omega arith
+    by (inr (inr l)) = omega arith
 
 not_above : (a b : ℕ) → b ≤ a → nat_lt a b ≡ false
 not_above a b h = false_if (nat_lt a b) (λ e. let l : a < b = (Decides-ltb a b).0 e in omega arith)

@@ -1,5 +1,5 @@
 -- The tests of the solved form on rows that are given in pieces.
-use Rattle.std.proofs.Common.{◌≡◌, ◌⊎◌, inl, inr, ℕ, zero, suc, ◌+◌, ◌-◌, ◌<◌, ◌≤◌, Bool, true, false, ◌&&◌, List, [], ◌∷◌, ◌++◌, length, drop, ℤ, pos, negsuc, ◌<ℤ◌, unsigned_abs, refl, ap, sym, ◌∙◌, arith, append_assoc}
+use Rattle.std.proofs.Common.{◌≡◌, ◌⊎◌, inl, inr, ℕ, zero, ◌+◌, ◌-◌, ◌<◌, ◌≤◌, Bool, true, false, ◌&&◌, List, [], ◌∷◌, ◌++◌, length, drop, ℤ, pos, negsuc, ◌<ℤ◌, unsigned_abs, refl, ap, sym, ◌∙◌, arith, append_assoc}
 use Rattle.std.specs.Prelude.{slice_range, ◌==◌, int_lt, not}
 use Rattle.std.proofs.lemmas.Int.{ints}
 use Rattle.std.proofs.lemmas.List.{length-append, get_or_append_left, get_or-drop}
@@ -11,7 +11,7 @@ use Rattle.relation_core.specs.declared.part_rows.RowKind.TheVariants.{AtLeast}
 use Rattle.scop_core.specs.declared.affines.Affine.{Affine}
 use Rattle.scop_core.specs.SolvedRows.{unit, with_columns, value_row, HasSizes}
 use Rattle.scop_core.specs.SolvedForm.{weight, outputs_of, local_column, locals_from, is_formed, is_output_row, is_local_row, is_low_row, is_high_row, affine_of, cleared}
-use Rattle.scop_core.proofs.ReadBackLists.{true_if, false_if, and_true, and_false, same_number, other_number, middle, middle_from, middle_entry, cleared_middle, entry_weight, weightless, weight_unit, length_unit, entry_unit, entry_unit_other}
+use Rattle.scop_core.proofs.ReadBackLists.{true_if, false_if, and_true, and_false, same_number, other_number, apart, middle, middle_from, middle_entry, cleared_middle, entry_weight, weightless, weight_unit, length_unit, entry_unit, entry_unit_other}
 
 -- pieces of the sizes of a shape
 pub record Fits (shape : Shape) (o i f p : List ℤ) : Type 0 where
@@ -174,12 +174,6 @@ entry_here shape o i f p c k z fits lead h = local_entry shape o i f p c k fits 
 first_false : (a b : Bool) → a ≡ false → (a && b) ≡ false
 first_false true b e = absurd (cc)
 first_false false b e = refl
-
-apart : (t k : ℕ) → (t < k) ⊎ ((t ≡ k) ⊎ (k < t))
-apart zero zero = inr (inl refl)
-apart zero (suc k) = inl (omega arith)
-apart (suc t) zero = inr (inr (omega arith))
-apart (suc t) (suc k) = elim (apart t k) [ inl h ↦ inl (omega arith) | inr (inl e) ↦ inr (inl (ap suc e)) | inr (inr h) ↦ inr (inr (omega arith)) ]
 
 pub low_here : (shape : Shape) (o i f p : List ℤ) (c : ℤ) (k : ℕ) (z : ℤ) → Fits shape o i f p → Leads f k z → k < shape.locals → z <ℤ pos 0
     → is_low_row shape k (bound o i f p c) ≡ true

@@ -1,10 +1,10 @@
 -- Values of rows at points, in pieces.
-use Rattle.std.proofs.Common.{◌≡◌, ◌⊎◌, inl, inr, ℕ, zero, suc, ◌+◌, ◌-◌, ◌*◌, ◌<◌, ◌≤◌, Bool, true, false, ◌&&◌, List, [], ◌∷◌, ◌++◌, length, take, drop, set, get_or, map, ℤ, pos, negsuc, ◌+ℤ◌, ◌*ℤ◌, neg_ℤ, unsigned_abs, refl, ap, sym, ◌∙◌, subst, arith, append_assoc}
+use Rattle.std.proofs.Common.{◌≡◌, ℕ, zero, suc, ◌-◌, ◌<◌, ◌≤◌, true, List, [], ◌∷◌, ◌++◌, length, take, drop, set, map, ℤ, pos, ◌+ℤ◌, ◌*ℤ◌, neg_ℤ, unsigned_abs, refl, ap, sym, ◌∙◌, arith, append_assoc}
 use Rattle.std.specs.Prelude.{slice_range}
 use Rattle.std.specs.Ordering.{int_eq}
 use Rattle.std.proofs.lemmas.Int.{ints}
 use Rattle.std.proofs.lemmas.Bool.Decides.{Decides-int_eq}
-use Rattle.std.proofs.lemmas.List.{length-append, length-take-le, length-drop, drop_all}
+use Rattle.std.proofs.lemmas.List.{length-append, drop_all}
 use Rattle.std.proofs.lemmas.List.Folds.{drop_split}
 use Rattle.std.proofs.Math.Seq.{drop-cons}
 use Rattle.row_core.specs.Rows.{entry, dot}
@@ -12,11 +12,11 @@ use Rattle.row_core.proofs.Ring.{mul_one_z, neg_mul_z}
 use Rattle.relation_core.specs.Systems.{columns, width}
 use Rattle.relation_core.specs.Points.{coordinates}
 use Rattle.relation_core.specs.declared.shapes.Shape.{Shape}
-use Rattle.scop_core.specs.declared.affines.Affine.{Affine}
 use Rattle.scop_core.specs.SolvedRows.{with_columns}
 use Rattle.scop_core.specs.SolvedForm.{weight, outputs_of, local_column, affine_of, are_opposite, cleared}
 use Rattle.scop_core.specs.Meaning.{affine_at}
 use Rattle.scop_core.proofs.SolvedShapes.{both}
+use Rattle.scop_core.proofs.SolvedPieces.{length_slice}
 use Rattle.scop_core.proofs.ReadBackLists.{entry_weight, cleared_is, negative_drop, negative_entry}
 use Rattle.scop_core.proofs.ReadBackRows.{Fits, first}
 
@@ -108,9 +108,6 @@ row_value shape o i f p c y x l n fits at =
     ap (λ r. dot r (coordinates y x l n)) (first o i f p c) ∙ omega (arith, ints, mul_one_z c)
 
 -- every row of the width of a shape is in pieces
-length_slice : (row : List ℤ) (a b : ℕ) → a ≤ b → b ≤ length row → length (slice_range row a b) ≡ b - a
-length_slice row a b h g = length-take-le (b - a) (drop a row) (omega (arith, length-drop a row))
-
 pub split_fits : (shape : Shape) (row : List ℤ) → length row ≡ width shape
     → Fits shape (outputs_of shape row) (affine_of shape row).iterators (affine_of shape row).floors (affine_of shape row).parameters
 split_fits shape row w = record {

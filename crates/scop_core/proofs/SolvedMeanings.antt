@@ -1,28 +1,24 @@
 -- The rows of a part in solved form allow the values that it gives, and no others.
-use Rattle.std.proofs.Common.{◌≡◌, ◌⊎◌, inl, inr, ℕ, zero, suc, ◌+◌, ◌-◌, ◌*◌, ◌/◌, ◌%◌, ◌<◌, ◌≤◌, Bool, true, false, ◌&&◌, List, [], ◌∷◌, ◌++◌, length, take, drop, get_or, map, ℤ, pos, negsuc, ◌+ℤ◌, ◌*ℤ◌, neg_ℤ, ◌≤ℤ◌, unsigned_abs, refl, ap, sym, ◌∙◌, subst, arith, add-one, add-zero, zero-add}
+use Rattle.std.proofs.Common.{◌≡◌, inl, inr, ℕ, zero, suc, ◌+◌, ◌-◌, ◌*◌, ◌/◌, ◌<◌, ◌≤◌, Bool, true, false, List, [], ◌∷◌, ◌++◌, length, take, drop, map, ℤ, pos, ◌+ℤ◌, unsigned_abs, refl, ap, sym, ◌∙◌, subst, arith, add-one, add-zero, zero-add}
 use Rattle.std.specs.Prelude.{int_lt, not, ◌==◌, ◌↔◌}
 use Rattle.std.proofs.lemmas.Int.{ints}
 use Rattle.std.proofs.lemmas.Bool.Decides.{Decides-eqb}
-use Rattle.std.proofs.lemmas.List.{length-append, length-take-le, length-map, take_all, take-take, get_or-take, ext_get_or, get_or_push, take-append-le}
-use Rattle.std.proofs.Math.Seq.{take-suc, take-length}
+use Rattle.std.proofs.lemmas.List.{length-append, take_all, take-take, get_or-take, ext_get_or, get_or_push, take-append-le}
+use Rattle.std.proofs.Math.Seq.{take-suc}
 use Rattle.row_core.specs.Rows.{entry, dot}
 use Rattle.relation_core.specs.Systems.{System, IsWellFormed}
 use Rattle.relation_core.specs.Points.{Meets, MeetsAll, coordinates, LiesIn}
-use Rattle.relation_core.specs.declared.shapes.Shape.{Shape}
 use Rattle.relation_core.specs.declared.part_rows.PartRow.{PartRow}
 use Rattle.scop_core.specs.declared.affines.Affine.{Affine}
-use Rattle.scop_core.specs.declared.schedules.Floor.{Floor}
-use Rattle.scop_core.specs.declared.accesses.AccessKind.{AccessKind}
 use Rattle.scop_core.specs.Sequences.{In}
-use Rattle.scop_core.specs.SolvedForm.{weight, is_equality, outputs_of, local_column, locals_from, is_formed, is_output_row, is_local_row, is_low_row, is_high_row, affine_of, value_at, floor_at, size_at, output_row, low_row_of, high_row_of, has_output, has_floor, has_beta, is_constant, is_scattering, is_access, levels_from, betas_from, floors_from, values_from, schedule_of, access_of}
+use Rattle.scop_core.specs.SolvedForm.{weight, is_equality, outputs_of, local_column, locals_from, is_output_row, is_local_row, is_low_row, is_high_row, affine_of, value_at, floor_at, size_at, output_row, low_row_of, high_row_of, has_output, has_floor, has_beta, is_constant, is_scattering, is_access, levels_from, betas_from, floors_from, values_from, schedule_of, access_of}
 use Rattle.scop_core.specs.Meaning.{affine_at, floor_of, floors_after, levels_at, interleaved, stamp_of, use_at}
-use Rattle.scop_core.specs.ReadBack.{UsesEarlier}
 use Rattle.scop_core.specs.SolvedLaws.{cell_list, SolvedScheduleMeansItsRelation, SolvedAccessMeansItsRelation}
 use Rattle.scop_core.proofs.SolvedShapes.{both, each_at, scattering_odd, scattering_floors, access_locals, access_outputs}
 use Rattle.scop_core.proofs.SolvedPieces.{row_width, output_only, low_only, high_only, floor_earlier, scattering_outputs, scattering_betas, access_given}
 use Rattle.scop_core.proofs.SolvedDots.{Point, dot_zero, dot_take, split_fits, split_row}
 use Rattle.scop_core.proofs.SolvedRowMeanings.{Solved, formed_in, formed_output, formed_some, output_place, local_place, output_meets, floor_meets}
-use Rattle.scop_core.proofs.ReadBackLists.{true_if, and_true, same_number, other_number, entry_weight, no_entry, Only, only_in, only_one}
+use Rattle.scop_core.proofs.ReadBackLists.{true_if, and_true, same_number, other_number, apart, no_entry, Only, only_in, only_one}
 use Rattle.scop_core.proofs.ReadBackRows.{locals_piece}
 
 -- rows one by one
@@ -146,14 +142,8 @@ follows part x n k (suc m) earlier e =
       each = λ j g h. from (λ i. entry l i ≡ floor_of (affine_at (floor_at part i).value x (take i l) n) (size_at part i)) k j own (rest.each j) g h;
     }
   where
-    same : (a b : ℕ) → a ≤ b → (a ≡ b) ⊎ (a < b)
-    same zero zero h = inl refl
-    same zero (suc b) h = inr (omega arith)
-    same (suc a) zero h = absurd (omega arith)
-    same (suc a) (suc b) h = elim (same a b (omega arith)) [ inl e ↦ inl (ap suc e) | inr h ↦ inr (omega arith) ]
-
     from : (P : ℕ → Type 0) (a j : ℕ) → P a → (a + 1 ≤ j → j < (a + 1) + m → P j) → a ≤ j → j < a + suc m → P j
-    from P a j here later g h = elim (same a j g) [ inl e ↦ subst P e here | inr l ↦ later (omega arith) (omega arith) ]
+    from P a j here later g h = elim (apart a j) [ inl l ↦ later (omega arith) (omega arith) | inr (inl e) ↦ subst P e here | inr (inr l) ↦ absurd (omega arith) ]
 
 affine_take : (value : Affine) (x l n : List ℤ) (k : ℕ) → ((j : ℕ) → k ≤ j → entry value.floors j ≡ pos 0) → affine_at value x (take k l) n ≡ affine_at value x l n
 affine_take value x l n k h = ap (λ d. ((dot value.iterators x +ℤ d) +ℤ dot value.parameters n) +ℤ value.constant) (dot_take value.floors l k h)
@@ -165,7 +155,7 @@ floors_give part x l n k zero solved count e each = take_all k l (omega arith)
 floors_give part x l n k (suc m) solved count e each =
     let h : k < part.shape.locals = omega arith in
     let value : floor_of (affine_at (floor_at part k).value x (take k l) n) (size_at part k) ≡ entry l k
-    = ap (λ d. floor_of d (size_at part k)) (affine_take (floor_at part k).value x l n k (floor_earlier part k h (solved.floors k h))) ∙ sym (each k h) in
+    = ap (λ d. floor_of d (size_at part k)) (affine_take (floor_at part k).value x l n k (floor_earlier part k (solved.floors k h))) ∙ sym (each k h) in
     let step : take k l ++ floor_of (affine_at (floor_at part k).value x (take k l) n) (size_at part k) ∷ [] ≡ take (k + 1) l
     = ap (λ z. take k l ++ z ∷ []) value ∙ (sym (take-suc l k (pos 0) (omega arith)) ∙ ap (λ i. take i l) (sym (add-one k))) in
     ap (λ t. floors_after t (floors_from part (k + 1) m) x n) step ∙ floors_give part x l n (k + 1) m solved count (omega arith) each
@@ -214,7 +204,7 @@ lies_in part y x n solved ey ex en = (forth, back)
         = record {
           point = record { outputs_are = ey; inputs_are = ex; locals_are = count; parameters_are = en };
           outputs = λ k h. ap (λ t. entry t k) e ∙ (outputs_entry part x l n 0 part.shape.outputs k h ∙ ap (λ i. affine_at (value_at part i) x l n) (zero-add k));
-          floors = λ k h. f.each k (omega arith) (omega arith) ∙ ap (λ d. floor_of d (size_at part k)) (affine_take (floor_at part k).value x l n k (floor_earlier part k h (solved.floors k h)));
+          floors = λ k h. f.each k (omega arith) (omega arith) ∙ ap (λ d. floor_of d (size_at part k)) (affine_take (floor_at part k).value x l n k (floor_earlier part k (solved.floors k h)));
         } in
         record { locals = l; length_is = count; meets = all_meet part.rows (coordinates y x l n) (row_meets part y x l n solved right) }
 

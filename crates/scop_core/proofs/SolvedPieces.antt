@@ -17,7 +17,7 @@ use Rattle.scop_core.specs.SolvedForm.{weight, local_column, locals_from, is_out
 use Rattle.scop_core.specs.ReadBack.{UsesEarlier, IsSolvedSchedule, IsSolvedAccess}
 use Rattle.scop_core.specs.SolvedLaws.{ScatteringIsSolved, AccessIsSolved}
 use Rattle.scop_core.proofs.SolvedShapes.{both, each_at, pair_fits, scattering_odd, scattering_floors, access_locals, access_outputs}
-use Rattle.scop_core.proofs.ReadBackLists.{no_entry, cleared_is, Only, counted_only, only_in, only_passes}
+use Rattle.scop_core.proofs.ReadBackLists.{no_entry, cleared_is, apart, Only, counted_only, only_in, only_passes}
 
 -- a row of a list stands at some place
 at_place : (r : PartRow) (rows : List PartRow) → In r rows → (k : ℕ) × (k < length rows) × (row_at rows k ≡ r)
@@ -34,7 +34,7 @@ row_range part r formed h k =
     let p = at_place r part.rows h in subst (λ row. unsigned_abs (entry row.entries k) < 2 ^ 127) p.2 (AreCoefficients.bound (formed.ranges p.0) k)
 
 -- slices
-length_slice : (row : List ℤ) (a b : ℕ) → a ≤ b → b ≤ length row → length (slice_range row a b) ≡ b - a
+pub length_slice : (row : List ℤ) (a b : ℕ) → a ≤ b → b ≤ length row → length (slice_range row a b) ≡ b - a
 length_slice row a b h g = length-take-le (b - a) (drop a row) (omega (arith, length-drop a row))
 
 pub slice_entry : (row : List ℤ) (a b k : ℕ) → a + k < b → entry (slice_range row a b) k ≡ entry row (a + k)
@@ -45,6 +45,10 @@ take_past zero row k h = refl
 take_past (suc n) [] k h = refl
 take_past (suc n) (x ∷ row) zero h = absurd (omega arith)
 take_past (suc n) (x ∷ row) (suc k) h = take_past n row k (omega arith)
+
+-- local places follow the place of the first one
+same_place : (shape : Shape) (j : ℕ) → local_column shape 0 + j ≡ local_column shape j
+same_place shape j = omega arith
 
 -- an entry that is not 0 is there
 is_within : (row : List ℤ) (k : ℕ) → (entry row k ≡ pos 0 → ⊥) → k < length row
@@ -73,8 +77,14 @@ pub floor_pair : (part : System) (k : ℕ) → has_floor part k ≡ true
     → is_pair part.shape (size_at part k) (low_row_of part k).entries (high_row_of part k).entries ≡ true
 floor_pair part k h = (both _ _ h).1
 
+at_least_one : (z : ℤ) → int_le (pos 1) z ≡ true → pos 1 ≤ℤ z
+at_least_one z h = omega (arith, ints)
+
+not_zero : (z : ℤ) → int_lt z (pos 0) ≡ true → z ≡ pos 0 → ⊥
+not_zero z h e = omega (arith, ints)
+
 pub size_is : (part : System) (k : ℕ) → has_floor part k ≡ true → pos 1 ≤ℤ size_at part k
-size_is part k h = let big : int_le (pos 1) (size_at part k) ≡ true = (both _ _ (both _ _ (floor_pair part k h)).0).0 in omega (arith, ints)
+size_is part k h = at_least_one (size_at part k) (both _ _ (both _ _ (floor_pair part k h)).0).0
 
 -- the value of an output has the sizes of the part
 pub value_sizes : (part : System) (k : ℕ) → IsWellFormed part.shape part.rows → has_output part k ≡ true
@@ -96,52 +106,49 @@ floor_sizes part k formed l h =
     affine_sizes part.shape (cleared row (local_column part.shape k)) (ap length e ∙ (length-set row (local_column part.shape k) (pos 0) ∙ w))
 
 -- behind the local of a floor its low row has coefficients 0
+low_light : (part : System) (k : ℕ) → has_floor part k ≡ true → weight (locals_from part.shape (k + 1) (low_row_of part k).entries) ≡ 0
+low_light part k h = (Decides-eqb _ 0).0 (both _ _ (both _ _ (only_passes _ _ _ (low_only part k h))).0).1
+
 pub later_zero : (part : System) (k j : ℕ) → has_floor part k ≡ true → k < j → j < part.shape.locals
     → entry (low_row_of part k).entries (local_column part.shape j) ≡ pos 0
 later_zero part k j h l g =
     let row = (low_row_of part k).entries in
-    let passes : is_low_row part.shape k (low_row_of part k) ≡ true = only_passes _ _ _ (low_only part k h) in
-    let light : weight (locals_from part.shape (k + 1) row) ≡ 0 = (Decides-eqb _ 0).0 (both _ _ (both _ _ passes).0).1 in
-    let zero_at : entry (locals_from part.shape (k + 1) row) (j - (k + 1)) ≡ pos 0 = no_entry (locals_from part.shape (k + 1) row) light (j - (k + 1)) in
     let place : local_column part.shape (k + 1) + (j - (k + 1)) ≡ local_column part.shape j = omega arith in
     ap (λ m. entry row m) (sym place)
-    ∙ (sym (slice_entry row (local_column part.shape (k + 1)) (local_column part.shape part.shape.locals) (j - (k + 1)) (omega arith)) ∙ zero_at)
+    ∙ (sym (slice_entry row (local_column part.shape (k + 1)) (local_column part.shape part.shape.locals) (j - (k + 1)) (omega arith))
+    ∙ no_entry (locals_from part.shape (k + 1) row) (low_light part k h) (j - (k + 1)))
 
-pub floor_earlier : (part : System) (k : ℕ) → k < part.shape.locals → has_floor part k ≡ true → UsesEarlier k (floor_at part k)
-floor_earlier part k l h j g = by (split j part.shape.locals)
+-- the low row reaches to its local
+low_reaches : (part : System) (k : ℕ) → has_floor part k ≡ true → local_column part.shape k < length (low_row_of part k).entries
+low_reaches part k h =
+    is_within (low_row_of part k).entries (local_column part.shape k)
+    (not_zero (entry (low_row_of part k).entries (local_column part.shape k)) (both _ _ (only_passes _ _ _ (low_only part k h))).1)
+
+-- the row of a floor with 0 at its own local has 0 from there on
+cleared_zero : (part : System) (k j : ℕ) → has_floor part k ≡ true → k ≤ j → j < part.shape.locals
+    → entry (cleared (low_row_of part k).entries (local_column part.shape k)) (local_column part.shape j) ≡ pos 0
+cleared_zero part k j h g m =
+    let row = (low_row_of part k).entries in
+    let at = local_column part.shape k in
+    let within = low_reaches part k h in
+    ap (λ r. entry r (local_column part.shape j)) (cleared_is row at within) ∙ elim (apart k j) [
+      | inl l ↦ get_or-set_other row at (local_column part.shape j) (pos 0) (pos 0) (λ e. omega arith) ∙ later_zero part k j h l m
+      | inr (inl e) ↦ ap (λ i. entry (set row at (pos 0)) (local_column part.shape i)) (sym e) ∙ get_or-set_same row at (pos 0) (pos 0) within
+      | inr (inr l) ↦ absurd (omega arith)
+    ]
+
+pub floor_earlier : (part : System) (k : ℕ) → has_floor part k ≡ true → UsesEarlier k (floor_at part k)
+floor_earlier part k h j g = by (apart j part.shape.locals)
   where
-    row : List ℤ
-    row = (low_row_of part k).entries
+    past : part.shape.locals ≤ j → entry (floor_at part k).value.floors j ≡ pos 0
+    past m = take_past _ (drop (local_column part.shape 0) (cleared (low_row_of part k).entries (local_column part.shape k))) j (omega arith)
 
-    split : (a b : ℕ) → (a < b) ⊎ (b ≤ a)
-    split a zero = inr (omega arith)
-    split zero (suc b) = inl (omega arith)
-    split (suc a) (suc b) = elim (split a b) [ inl h ↦ inl (omega arith) | inr h ↦ inr (omega arith) ]
-
-    same : (a b : ℕ) → a ≤ b → (a ≡ b) ⊎ (a < b)
-    same zero zero h = inl refl
-    same zero (suc b) h = inr (omega arith)
-    same (suc a) zero h = absurd (omega arith)
-    same (suc a) (suc b) h = elim (same a b (omega arith)) [ inl e ↦ inl (ap suc e) | inr h ↦ inr (omega arith) ]
-
-    inside : j < part.shape.locals → local_column part.shape k < length (low_row_of part k).entries
-        → (k ≡ j) ⊎ (k < j) → entry (floor_at part k).value.floors j ≡ pos 0
-    inside m w c =
-        slice_entry (cleared (low_row_of part k).entries (local_column part.shape k)) (local_column part.shape 0) (local_column part.shape part.shape.locals) j (omega arith)
-        ∙ (ap (λ r. entry r (local_column part.shape 0 + j)) (cleared_is (low_row_of part k).entries (local_column part.shape k) w)
-        ∙ elim c [
-          | inl e ↦ ap (λ m. entry (set (low_row_of part k).entries (local_column part.shape k) (pos 0)) m) (omega arith)
-              ∙ get_or-set_same (low_row_of part k).entries (local_column part.shape k) (pos 0) (pos 0) w
-          | inr o ↦ get_or-set_other (low_row_of part k).entries (local_column part.shape k) (local_column part.shape 0 + j) (pos 0) (pos 0) (λ e. omega arith)
-              ∙ (ap (λ m. entry (low_row_of part k).entries m) (omega arith) ∙ later_zero part k j h o m)
-        ])
-
-    by : (j < part.shape.locals) ⊎ (part.shape.locals ≤ j) → entry (floor_at part k).value.floors j ≡ pos 0
+    by : (j < part.shape.locals) ⊎ ((j ≡ part.shape.locals) ⊎ (part.shape.locals < j)) → entry (floor_at part k).value.floors j ≡ pos 0
     by (inl m) =
-        let passes : is_low_row part.shape k (low_row_of part k) ≡ true = only_passes _ _ _ (low_only part k h) in
-        let negative : int_lt (entry (low_row_of part k).entries (local_column part.shape k)) (pos 0) ≡ true = (both _ _ passes).1 in
-        inside m (is_within (low_row_of part k).entries (local_column part.shape k) (λ e. omega (arith, ints))) (same k j g)
-    by (inr m) = take_past _ (drop (local_column part.shape 0) (cleared (low_row_of part k).entries (local_column part.shape k))) j (omega arith)
+        slice_entry (cleared (low_row_of part k).entries (local_column part.shape k)) (local_column part.shape 0) (local_column part.shape part.shape.locals) j (omega arith)
+        ∙ (ap (λ i. entry (cleared (low_row_of part k).entries (local_column part.shape k)) i) (same_place part.shape j) ∙ cleared_zero part k j h g m)
+    by (inr (inl e)) = past (omega arith)
+    by (inr (inr l)) = past (omega arith)
 
 -- the lists that a part gives
 floors_entry : (part : System) (k n j : ℕ) (d : Floor) → j < n → get_or (floors_from part k n) j d ≡ floor_at part (k + j)
@@ -194,7 +201,7 @@ solved_of_relation i p part h relation =
     record {
       relation = relation;
       sizes = λ k d l. subst (λ f. pos 1 ≤ℤ f.size) (sym (floor_entry part k d l)) (size_is part k (given k (omega (arith, count))));
-      earlier = λ k d l. subst (λ f. UsesEarlier k f) (sym (floor_entry part k d l)) (floor_earlier part k (omega (arith, count)) (given k (omega (arith, count))));
+      earlier = λ k d l. subst (λ f. UsesEarlier k f) (sym (floor_entry part k d l)) (floor_earlier part k (given k (omega (arith, count))));
     }
 
 pair_at : (part : System) (k : ℕ) → IsWellFormed part.shape part.rows → k < part.shape.locals → has_floor part k ≡ true → PairFits k (floor_at part k)
@@ -233,7 +240,7 @@ solved_is_solved part formed h =
     })
 
 pub access_identifier : (part : System) → is_access part ≡ true → pos 1 ≤ℤ (value_at part 0).constant
-access_identifier part h = let big : int_le (pos 1) (value_at part 0).constant ≡ true = (both _ _ (both _ _ h).1).1 in omega (arith, ints)
+access_identifier part h = at_least_one (value_at part 0).constant (both _ _ (both _ _ h).1).1
 
 pub access_given : (part : System) → is_access part ≡ true → each_below (has_output part) part.shape.outputs ≡ true
 access_given part h = (both _ _ (both _ _ h).0).1

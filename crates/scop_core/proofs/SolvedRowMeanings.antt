@@ -1,27 +1,25 @@
 -- What the rows of a part in solved form say of a point: the values of its outputs and of its floors.
-use Rattle.std.proofs.Common.{◌≡◌, ◌⊎◌, inl, inr, ℕ, zero, suc, ◌+◌, ◌-◌, ◌*◌, ◌<◌, ◌≤◌, Bool, true, false, ◌&&◌, List, [], ◌∷◌, ◌++◌, length, drop, get_or, map, ℤ, pos, negsuc, ◌+ℤ◌, ◌*ℤ◌, neg_ℤ, ◌≤ℤ◌, ◌<ℤ◌, unsigned_abs, refl, ap, sym, ◌∙◌, subst, arith, add-one, zero-add}
+use Rattle.std.proofs.Common.{◌≡◌, inl, inr, ℕ, zero, suc, ◌<◌, ◌≤◌, Bool, true, false, ◌&&◌, List, [], ◌∷◌, ◌++◌, length, map, ℤ, pos, negsuc, ◌+ℤ◌, ◌*ℤ◌, neg_ℤ, ◌≤ℤ◌, unsigned_abs, refl, ap, sym, ◌∙◌, subst, arith, zero-add}
 use Rattle.std.specs.Prelude.{slice_range, int_lt, not, ◌==◌, ◌↔◌, if◌then◌else◌}
 use Rattle.std.proofs.lemmas.Int.{ints}
-use Rattle.std.proofs.lemmas.Bool.Decides.{Decides-eqb, Decides-int_eq}
+use Rattle.std.proofs.lemmas.Bool.Decides.{Decides-eqb}
 use Rattle.row_core.specs.Rows.{entry, dot}
 use Rattle.row_core.proofs.Ring.{neg_mul_z}
 use Rattle.relation_core.specs.Systems.{System, columns, width, IsWellFormed}
-use Rattle.relation_core.specs.Points.{Meets, MeetsAll, coordinates}
+use Rattle.relation_core.specs.Points.{Meets, coordinates}
 use Rattle.relation_core.specs.declared.shapes.Shape.{Shape}
 use Rattle.relation_core.specs.declared.part_rows.PartRow.{PartRow}
 use Rattle.relation_core.specs.declared.part_rows.RowKind.{RowKind}
 use Rattle.relation_core.specs.declared.part_rows.RowKind.TheVariants.{Equal, AtLeast}
-use Rattle.scop_core.specs.declared.affines.Affine.{Affine}
 use Rattle.scop_core.specs.Sequences.{In}
-use Rattle.scop_core.specs.SolvedRows.{with_columns}
-use Rattle.scop_core.specs.SolvedForm.{weight, is_equality, outputs_of, local_column, locals_from, is_formed, are_formed, is_output_row, is_local_row, is_low_row, is_high_row, affine_of, cleared, is_pair, value_at, floor_at, size_at, output_row, low_row_of, high_row_of, has_output, has_floor}
+use Rattle.scop_core.specs.SolvedForm.{weight, is_equality, outputs_of, local_column, locals_from, is_formed, are_formed, affine_of, cleared, is_pair, value_at, floor_at, size_at, output_row, low_row_of, high_row_of, has_output, has_floor}
 use Rattle.scop_core.specs.Meaning.{affine_at, floor_of}
 use Rattle.scop_core.proofs.Floors.{floor_meets_rows, rows_give_floor}
 use Rattle.scop_core.proofs.SolvedShapes.{both, pair_constant}
 use Rattle.scop_core.proofs.SolvedPieces.{slice_entry, row_width, output_only, low_only, high_only, floor_pair, size_is}
 use Rattle.scop_core.proofs.SolvedDots.{Point, dot_one, dot_zero, dot_cleared, dot_negative, opposite_is, split_fits, split_row, value_of_row, front_value, negative_value}
-use Rattle.scop_core.proofs.ReadBackLists.{true_if, false_if, and_true, same_number, other_number, entry_weight, no_entry, only_in, only_passes, only_one, length_cleared}
-use Rattle.scop_core.proofs.ReadBackRows.{affine_piece, locals_piece, cleared_piece, Fits}
+use Rattle.scop_core.proofs.ReadBackLists.{same_number, entry_weight, no_entry, only_in, only_passes, length_cleared}
+use Rattle.scop_core.proofs.ReadBackRows.{affine_piece, cleared_piece, Fits}
 use Rattle.scop_core.proofs.ReadBackParts.{value_in}
 
 -- a part whose rows are all formed and give each output and each local once
@@ -140,17 +138,20 @@ low_value shape row k y x l n w at light h =
     = ap (λ v. affine_at v x l n) same in
     omega (arith, ints)
 
+pair_opposite : (shape : Shape) (size : ℤ) (low high : List ℤ) → is_pair shape size low high ≡ true
+    → slice_range high 0 (columns shape) ≡ map neg_ℤ (slice_range low 0 (columns shape))
+pair_opposite shape size low high pair = opposite_is _ _ (both _ _ (both _ _ pair).0).1
+
 -- the value of the high row
 high_value : (shape : Shape) (size : ℤ) (low high : List ℤ) (y x l n : List ℤ) → length low ≡ width shape → length high ≡ width shape → Point shape y x l n
     → is_pair shape size low high ≡ true → dot high (coordinates y x l n) ≡ (neg_ℤ (dot low (coordinates y x l n)) +ℤ size) +ℤ negsuc 0
 high_value shape size low high y x l n wl wh at pair =
     let q = y ++ (x ++ (l ++ n)) in
     let constant = pair_constant shape size low high pair in
-    let opposite : slice_range high 0 (columns shape) ≡ map neg_ℤ (slice_range low 0 (columns shape)) = opposite_is _ _ (both _ _ (both _ _ pair).0).1 in
     let fl = front_value shape low y x l n wl at in
     let fh = front_value shape high y x l n wh at in
     let front : dot (slice_range high 0 (columns shape)) q ≡ neg_ℤ (dot (slice_range low 0 (columns shape)) q)
-    = ap (λ r. dot r q) opposite ∙ dot_negative (slice_range low 0 (columns shape)) q in
+    = ap (λ r. dot r q) (pair_opposite shape size low high pair) ∙ dot_negative (slice_range low 0 (columns shape)) q in
     omega (arith, ints)
 
 -- the two rows of a floor hold where the local is the floor
