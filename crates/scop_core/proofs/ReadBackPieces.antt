@@ -23,8 +23,8 @@ use Rattle.scop_core.specs.SolvedForm.{is_scattering, is_access, schedule_of, ac
 use Rattle.scop_core.specs.Assembly.{or_else, count_of, some_above, accesses_above, statement_above, accesses_many, has_many_parts, whole_limit, statement_limit, first_limit, is_one, the_part, are_solved, is_solved, first_unsolved, iterators_of, body_from, solved_accesses, solved_statement, solved_statements, first_clash, refusal_of, scop_of, HasInputs, HasShapes}
 use Rattle.scop_core.specs.Printable.{is_body, has_part, IsPrintableStatement, IsPrintable}
 use Rattle.scop_core.specs.Validity.{HasRelations, IsValid}
-use Rattle.scop_core.specs.ReadBack.{IsSolvedSchedule, IsSolvedAccess, access_piece, statement_pieces, pieces_of, ReadBack}
-use Rattle.scop_core.specs.SolvedLaws.{PiecesReadBack}
+use Rattle.scop_core.specs.ReadBack.{IsSolvedAccess, IsSolvedStatement, access_piece, statement_pieces, pieces_of, ReadBack}
+use Rattle.scop_core.specs.SolvedLaws.{StatementsAreSolved, PiecesReadBack}
 use Rattle.scop_core.proofs.SolvedShapes.{both}
 use Rattle.scop_core.proofs.SolvedPieces.{length_floors, length_levels, length_betas, length_values, solved_of_relation, access_of_relation}
 use Rattle.scop_core.proofs.ReadBackLists.{false_if, and_true, apart}
@@ -220,16 +220,18 @@ record Back (p k : ℕ) (raw : RawStatement) (made : RawStatement) : Type 0 wher
 abbrev made_of : ℕ → ℕ → RawStatement → RawStatement
 made_of p k raw = statement_pieces p (solved_statement k raw)
 
-schedule_solved : (p k : ℕ) (raw : RawStatement) → Good p k raw
-    → IsSolvedSchedule (length (body_from k (iterators_of raw) raw.body).iterators) p (schedule_of (the_part raw.scattering))
-schedule_solved p k raw good =
-    solved_of_relation (length (body_from k (iterators_of raw) raw.body).iterators) p (the_part raw.scattering)
-    (one_part is_scattering raw.scattering (both _ _ good.solved).0).1 good.relations.schedule
+-- a solved statement that can be printed is in solved form
+solved_one : (p k : ℕ) (raw : RawStatement) → is_solved raw ≡ true → HasRelations p (solved_statement k raw) → IsSolvedStatement p (solved_statement k raw)
+solved_one p k raw solved relations =
+    let i = length (body_from k (iterators_of raw) raw.body).iterators in
+    let is = both _ _ solved in
+    record {
+      schedule = solved_of_relation i p (the_part raw.scattering) (one_part is_scattering raw.scattering is.0).1 relations.schedule;
+      accesses = accesses_solved i p raw.accesses is.1 relations.accesses;
+    }
 
-all_solved : (p k : ℕ) (raw : RawStatement) → Good p k raw
-    → All (IsSolvedAccess (length (body_from k (iterators_of raw) raw.body).iterators) p) (solved_accesses raw.accesses)
-all_solved p k raw good =
-    accesses_solved (length (body_from k (iterators_of raw) raw.body).iterators) p raw.accesses (both _ _ good.solved).1 good.relations.accesses
+good_one : (p k : ℕ) (raw : RawStatement) → Good p k raw → IsSolvedStatement p (solved_statement k raw)
+good_one p k raw good = solved_one p k raw good.solved good.relations
 
 made_shapes : (p k : ℕ) (raw : RawStatement) → Good p k raw → HasShapes p (made_of p k raw)
 made_shapes p k raw good =
@@ -255,15 +257,15 @@ made_printable p k raw good =
 
 made_solved : (p k : ℕ) (raw : RawStatement) → Good p k raw → is_solved (made_of p k raw) ≡ true
 made_solved p k raw good =
-    and_true _ _ (schedule_reads_back _ p _ (schedule_solved p k raw good)).0 (pieces_solved _ p (solved_accesses raw.accesses) (all_solved p k raw good))
+    and_true _ _ (schedule_reads_back _ p _ (good_one p k raw good).schedule).0 (pieces_solved _ p (solved_accesses raw.accesses) (good_one p k raw good).accesses)
 
 made_same : (p k : ℕ) (raw : RawStatement) → Good p k raw → solved_statement k (made_of p k raw) ≡ solved_statement k raw
 made_same p k raw good =
     let i = length (body_from k (iterators_of raw) raw.body).iterators in
     let statement : Schedule → List Access → Statement
     = λ schedule accesses. record { domain = raw.domain; schedule = schedule; accesses = accesses; body = body_from k (iterators_of raw) raw.body; extensions = raw.extensions } in
-    ap (λ s. statement s (solved_accesses (map (access_piece i p) (solved_accesses raw.accesses)))) (schedule_reads_back i p _ (schedule_solved p k raw good)).1
-    ∙ ap (λ a. statement (schedule_of (the_part raw.scattering)) a) (pieces_same i p (solved_accesses raw.accesses) (all_solved p k raw good))
+    ap (λ s. statement s (solved_accesses (map (access_piece i p) (solved_accesses raw.accesses)))) (schedule_reads_back i p _ (good_one p k raw good).schedule).1
+    ∙ ap (λ a. statement (schedule_of (the_part raw.scattering)) a) (pieces_same i p (solved_accesses raw.accesses) (good_one p k raw good).accesses)
 
 -- the numbers of the schedule of a scattering that keeps its limits
 record Numbers (s : Schedule) : Type 0 where
@@ -412,6 +414,21 @@ pieces_back pieces printable none valid =
           (ap (λ statements. first_clash 1 [] statements) same ∙ parts.1);
       same = ap whole same;
     }
+
+all_solved : (p k : ℕ) (raws : List RawStatement) → first_unsolved k raws ≡ None → All (HasRelations p) (solved_statements k raws) → All (IsSolvedStatement p) (solved_statements k raws)
+all_solved p k [] unsolved relations = All-nil (IsSolvedStatement p)
+all_solved p k (raw ∷ raws) unsolved relations =
+    let u = unless_some _ _ _ unsolved in
+    All-cons (IsSolvedStatement p) (solved_statement k raw) (solved_statements (k + 1) raws)
+    (solved_one p k raw u.0 (All-head (HasRelations p) (solved_statement k raw) (solved_statements (k + 1) raws) relations))
+    (all_solved p (k + 1) raws u.1 (All-tail (HasRelations p) (solved_statement k raw) (solved_statements (k + 1) raws) relations))
+
+pub statements_solved : StatementsAreSolved
+statements_solved pieces scop none is valid =
+    let p = pieces.context.shape.parameters in
+    let unsolved = (or_none _ _ (or_none _ _ (or_none _ _ none).0).1).1 in
+    subst (λ s. All (IsSolvedStatement s.context.shape.parameters) s.statements) (sym is)
+    (all_solved p 1 pieces.statements unsolved (subst IsValid is valid).statements)
 
 pub pieces_read_back : PiecesReadBack
 pieces_read_back pieces scop printable none is valid =

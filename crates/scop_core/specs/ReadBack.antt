@@ -29,6 +29,11 @@ pub record IsSolvedAccess (iterators parameters : ℕ) (access : Access) : Type 
   pub relation : HasAccessRelation iterators parameters access
   pub identifier : pos 1 ≤ℤ access.array
 
+-- the schedule and the accesses of a statement are in solved form
+pub record IsSolvedStatement (parameters : ℕ) (statement : Statement) : Type 0 where
+  pub schedule : IsSolvedSchedule (length statement.body.iterators) parameters statement.schedule
+  pub accesses : All (IsSolvedAccess (length statement.body.iterators) parameters) statement.accesses
+
 -- an access as a relation of one part
 abbrev pub access_piece : ℕ → ℕ → Access → AccessKind × List System
 access_piece iterators parameters access = (access.kind, access_part iterators parameters access ∷ [])

@@ -1,5 +1,5 @@
 -- The laws of the solved form: what is printed reads back, and means what its rows mean.
-use Rattle.std.specs.Prelude.{◌≡◌, ◌↔◌, ℕ, ℤ, true, None, List, ◌∷◌, length}
+use Rattle.std.specs.Prelude.{◌≡◌, ◌↔◌, ℕ, ℤ, true, None, List, ◌∷◌, length, All}
 use Rattle.relation_core.specs.Points.{LiesIn}
 use Rattle.relation_core.specs.Systems.{System, IsWellFormed}
 use Rattle.scop_core.specs.declared.schedules.Schedule.{Schedule}
@@ -14,7 +14,7 @@ use Rattle.scop_core.specs.Printable.{IsPrintable}
 use Rattle.scop_core.specs.Memory.{Cell}
 use Rattle.scop_core.specs.Meaning.{stamp_of, use_at}
 use Rattle.scop_core.specs.Validity.{IsValid}
-use Rattle.scop_core.specs.ReadBack.{IsSolvedSchedule, IsSolvedAccess, ReadBack}
+use Rattle.scop_core.specs.ReadBack.{IsSolvedSchedule, IsSolvedAccess, IsSolvedStatement, ReadBack}
 
 -- the rows of a schedule are a scattering in solved form, and that schedule
 abbrev pub ScheduleReadsBack : Type 0
@@ -35,6 +35,11 @@ ScatteringIsSolved = (part : System) → IsWellFormed part.shape part.rows → i
 abbrev pub AccessIsSolved : Type 0
 AccessIsSolved = (kind : AccessKind) (part : System) → IsWellFormed part.shape part.rows → is_access part ≡ true
     → IsSolvedAccess part.shape.inputs part.shape.parameters (access_of kind part)
+
+-- the statements of a SCoP that pieces give without a refusal are in solved form
+abbrev pub StatementsAreSolved : Type 0
+StatementsAreSolved = (pieces : ScopPieces) (scop : ScopData) → refusal_of pieces ≡ None → scop ≡ scop_of pieces → IsValid scop
+    → All (IsSolvedStatement scop.context.shape.parameters) scop.statements
 
 -- a SCoP that printable pieces give without a refusal is what its own pieces give, and these can be printed
 abbrev pub PiecesReadBack : Type 0

@@ -1,7 +1,7 @@
 //! The laws of stamps, runs and memories, for every SCoP: functions that do nothing, and whose
 //! contracts are the laws.
 
-ghost use Rattle.scop_core.specs.SolvedLaws.{ScheduleReadsBack, AccessReadsBack, ScatteringIsSolved, AccessIsSolved, PiecesReadBack, SolvedScheduleMeansItsRelation, SolvedAccessMeansItsRelation};
+ghost use Rattle.scop_core.specs.SolvedLaws.{ScheduleReadsBack, AccessReadsBack, ScatteringIsSolved, AccessIsSolved, StatementsAreSolved, PiecesReadBack, SolvedScheduleMeansItsRelation, SolvedAccessMeansItsRelation};
 ghost use Rattle.scop_core.specs.Theorems.{FloorIsGreatest, BeforeIsTransitive, BeforeIsIrreflexive, StampsAreOrdered, StatementsAreOrdered, RunIsUnique, StepsCommute, ReorderingKeepsMemory, RunHasNoTies, KeptConflictsKeepMemory};
 
 /// The value of a floor is the greatest integer not above its quotient, for negative ones too.
@@ -75,6 +75,12 @@ pub fn scattering_is_solved()
 /// The access that an access relation in solved form is has an identifier of at least 1.
 pub fn access_is_solved()
     ensures { AccessIsSolved }
+{}
+
+/// The statements of a SCoP that pieces give without a refusal are in solved form: floors have sizes
+/// of at least 1 and use earlier floors alone, arrays have identifiers of at least 1.
+pub fn statements_are_solved()
+    ensures { StatementsAreSolved }
 {}
 
 /// A SCoP that printable pieces give without a refusal is what the pieces that it is printed as give.
