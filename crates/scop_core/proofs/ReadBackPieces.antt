@@ -209,14 +209,7 @@ record Good (p k : ℕ) (raw : RawStatement) : Type 0 where
   relations : HasRelations p (solved_statement k raw)
   number : k ≤ 65536
 
--- its pieces are so too, and are solved to the same statement
-record Back (p k : ℕ) (raw : RawStatement) (made : RawStatement) : Type 0 where
-  shapes : HasShapes p made
-  printable : IsPrintableStatement p made
-  solved : is_solved made ≡ true
-  limit : statement_limit k made ≡ None
-  same : solved_statement k made ≡ solved_statement k raw
-
+-- its pieces
 abbrev made_of : ℕ → ℕ → RawStatement → RawStatement
 made_of p k raw = statement_pieces p (solved_statement k raw)
 
@@ -307,15 +300,6 @@ made_limit p k raw good =
       accesses = ap (λ m. nat_lt 256 m) count ∙ keeps.accesses;
       subscripts = pieces_outputs i p (solved_accesses raw.accesses) small;
     })
-
-back : (p k : ℕ) (raw : RawStatement) → Good p k raw → Back p k raw (made_of p k raw)
-back p k raw good = record {
-  shapes = made_shapes p k raw good;
-  printable = made_printable p k raw good;
-  solved = made_solved p k raw good;
-  limit = made_limit p k raw good;
-  same = made_same p k raw good;
-}
 
 -- every statement
 abbrev AllGood : ℕ → ℕ → List RawStatement → Type 0
