@@ -6,9 +6,11 @@ pub mod Memory
 pub mod OneLoops
 pub mod Order
 pub mod Printable
+pub mod ReadBack
 pub mod ScopData
 pub mod Sequences
 pub mod SolvedForm
+pub mod SolvedLaws
 pub mod SolvedRows
 pub mod Theorems
 pub mod Validity
