@@ -12,5 +12,6 @@ pub mod Validities
 pub mod Arrays
 pub mod ClashFree
 pub mod KeptLimits
+pub mod Samples
 mod LayoutChecks
 mod Checks
