@@ -3,8 +3,8 @@ use Rattle.std.specs.Set.{distinct_count}
 use Rattle.std.specs.Ordering.{int_eq}
 use Rattle.std.proofs.lemmas.Cmp.{int_cmp_total}
 use Rattle.std.proofs.lemmas.Map.Views.{btree_set_len-from_list}
-use Rattle.beta_tree.specs.Vectors.{heads}
-use Rattle.beta_tree.proofs.numbering.count_lesser.Goals as goal
+use Rattle.row_core.specs.Dense.{heads}
+use Rattle.row_core.proofs.numbering.count_lesser.Goals as goal
 
 pub returns : goal.returns
 returns c =

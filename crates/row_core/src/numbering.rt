@@ -1,11 +1,11 @@
-//! The dense numbering of any vectors of which none is empty or a prefix of another.
+//! The dense numbering of vectors of coefficients.
 
 ghost use Rattle.std.specs.Prelude.{◌≡◌, ◌≤◌, ◌<◌, ◌^◌, ℤ, length, map, filter, int_lt, IfOk};
 ghost use Rattle.std.specs.BTreeSet.{IsFromIterResult};
 ghost use Rattle.std.specs.Ordering.{int_cmp};
-ghost use Rattle.beta_tree.specs.Vectors.{heads, rests, lesser, dense_among, dense_of};
+ghost use Rattle.row_core.specs.Dense.{heads, rests, lesser, dense_among, dense_of};
 
-use row_core::Coeff;
+use crate::coeffs::Coeff;
 use std::alloc::{AllocError, Global};
 use std::collections::BTreeSet;
 use suite_base::{List, NoMemory};
@@ -90,7 +90,8 @@ fn dense_vector(
     Ok(made)
 }
 
-/// The dense numbering of `vectors`.
+/// The dense numbering of `vectors`: each entry becomes the number of distinct lesser values at its
+/// place among the vectors that agree with its own before that place. It needs fewer than 2^32 vectors.
 pub fn dense_vectors(
     alloc: Global,
     vectors: &List<List<Coeff>>,

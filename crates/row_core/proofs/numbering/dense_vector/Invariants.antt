@@ -1,6 +1,6 @@
 use Rattle.std.proofs.Common.{◌≡◌, ◌<◌, ◌^◌, ◌++◌, drop, map, length}
-use Rattle.beta_tree.specs.Vectors.{dense_among}
-use Rattle.beta_tree.proofs.numbering.dense_vector.Given as goal
+use Rattle.row_core.specs.Dense.{dense_among}
+use Rattle.row_core.proofs.numbering.dense_vector.Given as goal
 
 abbrev pub invariant-loop-entry : goal.invariant-loop-entry
 invariant-loop-entry l = record {

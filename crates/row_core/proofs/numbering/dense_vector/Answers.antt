@@ -1,7 +1,7 @@
 use Rattle.std.proofs.Common.{◌≡◌, ◌≤◌, ◌++◌, ◌∷◌, [], map, length, rules}
-use Rattle.beta_tree.specs.Vectors.{heads, rests, lesser}
-use Rattle.beta_tree.proofs.Dense.{lesser_few, length_rests, dense_step}
-use Rattle.beta_tree.proofs.numbering.dense_vector.Goals as goal
+use Rattle.row_core.specs.Dense.{heads, rests, lesser}
+use Rattle.row_core.proofs.DenseSteps.{lesser_few, length_rests, dense_step}
+use Rattle.row_core.proofs.numbering.dense_vector.Goals as goal
 
 pub overflow_cast-number : goal.overflow_cast-number
 overflow_cast-number c =
