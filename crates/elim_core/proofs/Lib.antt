@@ -14,3 +14,5 @@ pub mod CodeSteps
 pub mod Widths
 pub mod Leads
 pub mod ColumnOrder
+pub mod Reducing
+pub mod Joining

@@ -1,6 +1,8 @@
 //! Exact rational emptiness of systems of rows, with a certificate for every empty one.
 #![tactic(auto)]
 
+mod continuations;
+mod counts;
 #[cfg(test)]
 mod decision_tests;
 mod decisions;
@@ -8,6 +10,7 @@ mod division;
 mod orders;
 mod phases;
 mod projections;
+mod reductions;
 mod refutations;
 mod signs;
 mod starts;
@@ -16,5 +19,7 @@ mod tidying;
 mod verdicts;
 mod working_rows;
 
+pub use continuations::decide_with;
 pub use decisions::{decide, decide_by};
+pub use reductions::{Reduced, reduce};
 pub use verdicts::{ElimFail, Verdict};

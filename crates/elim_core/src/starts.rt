@@ -1,7 +1,7 @@
 //! The working rows with which the elimination begins: each row of the system with the multiplier 1
 //! at its own place.
 
-ghost use Rattle.std.specs.Prelude.{◌≡◌, ◌<◌, ◌≤◌, ◌+◌, ◌-◌, ◌++◌, ◌∷◌, [], pos, replicate, length, IfOk, OnOk};
+ghost use Rattle.std.specs.Prelude.{◌≡◌, ◌<◌, ◌≤◌, ◌+◌, ◌-◌, ◌++◌, ◌∷◌, [], pos, drop, replicate, length, IfOk, OnOk};
 ghost use Rattle.relation_core.specs.Systems.{row_at, width};
 ghost use Rattle.elim_core.specs.Elimination.{unit, started_from, started};
 
@@ -16,12 +16,26 @@ pub fn start<R: Row>(alloc: Global, system: &Part) -> Result<Vec<WorkingRow<R>>,
     ensures { IfOk result (λ rows. rows.items ≡ started system.now.rows) }
 {
     let mut rows = Vec::new(alloc);
-    for i in 0..system.row_count() {
+    start_from(alloc, system, 0, &mut rows)?;
+    Ok(rows)
+}
+
+/// Appends the rows of `system` from row `first` on, each with its multipliers behind it.
+pub fn start_from<R: Row>(
+    alloc: Global,
+    system: &Part,
+    first: usize,
+    rows: &mut Vec<WorkingRow<R>>,
+) -> Result<(), NoMemory>
+    requires { first ≤ length system.now.rows }
+    ensures { OnOk result (rows.new.items ≡ rows.old.items ++ started_from (length system.now.rows) first (drop first system.now.rows)) }
+{
+    for i in first..system.row_count() {
         let cells = starting_cells(alloc, system, i)?;
         let row = R::from_coeffs(alloc, cells.as_slice())?;
         rows.push(WorkingRow::new(system.kind(i), row))?;
     }
-    Ok(rows)
+    Ok(())
 }
 
 // The entries of row `i`, and behind them its multipliers.
@@ -53,8 +67,8 @@ fn push_unit(cells: &mut Vec<Coeff>, i: usize, count: usize) -> Result<(), NoMem
     push_zeros(cells, count - i - 1)
 }
 
-// Appends zeros.
-fn push_zeros(cells: &mut Vec<Coeff>, count: usize) -> Result<(), NoMemory>
+/// Appends zeros.
+pub fn push_zeros(cells: &mut Vec<Coeff>, count: usize) -> Result<(), NoMemory>
     ensures { OnOk result (cells.new.items ≡ cells.old.items ++ replicate count (pos 0)) }
 {
     for _ in 0..count {
