@@ -16,3 +16,4 @@ pub mod Leads
 pub mod ColumnOrder
 pub mod Reducing
 pub mod Joining
+pub mod MarkLaws

@@ -1,6 +1,6 @@
 -- The equalities of a base are substituted and kept: the new rows hold only where the old ones do.
 use Rattle.std.proofs.Common.{◌≡◌, ap, sym, subst, ◌∙◌, inl, inr, ℕ, ◌+◌, List, [], ◌∷◌, ◌++◌, length, arith}
-use Rattle.std.specs.Prelude.{true, false, Some, ℤ, pos, ◌*ℤ◌, unsigned_abs}
+use Rattle.std.specs.Prelude.{true, false, Some, None, ℤ, pos, ◌*ℤ◌, unsigned_abs}
 use Rattle.std.proofs.lemmas.Int.{ints}
 use Rattle.row_core.proofs.Rows.{dot_combined}
 use Rattle.row_core.specs.Rows.{entry, dot, combined}
@@ -10,16 +10,16 @@ use Rattle.relation_core.specs.declared.part_rows.RowKind.{RowKind}
 use Rattle.relation_core.specs.declared.part_rows.RowKind.TheVariants.{Equal, AtLeast}
 use Rattle.relation_core.specs.Points.{Meets, MeetsAll}
 use Rattle.elim_core.specs.Gcd.{divided}
-use Rattle.elim_core.specs.Elimination.{is_zero, is_equal, first_equality, without_equality, last_variable, turned, substituted_row, substituted}
+use Rattle.elim_core.specs.Elimination.{is_zero, is_equal, is_contradiction, refutation_of, tidied, first_equality, without_equality, last_variable, turned, substituted_row, substituted}
 use Rattle.elim_core.specs.Multipliers.{Derived}
 use Rattle.elim_core.specs.RowLists.{AllRows, Wide}
 use Rattle.elim_core.specs.Reductions.{Reduces, Relieved}
 use Rattle.elim_core.proofs.Tests.{by_bool}
-use Rattle.elim_core.proofs.AllRows.{all_append, all_substituted, all_without_equality, at_first_equality}
+use Rattle.elim_core.proofs.AllRows.{all_append, all_tidied, no_refutation, all_substituted, all_without_equality, at_first_equality}
 use Rattle.elim_core.proofs.Derived.{substituted_derived}
-use Rattle.elim_core.proofs.Points.{meets_untimes, meets_divided, meets_append}
+use Rattle.elim_core.proofs.Points.{meets_untimes, meets_divided, meets_append, from_tidied_at}
 use Rattle.elim_core.proofs.Back.{kind_stays, unsigned_positive, with_equality}
-use Rattle.elim_core.proofs.Widths.{substituted_wide}
+use Rattle.elim_core.proofs.Widths.{substituted_wide, wide_tidied}
 use Rattle.elim_core.proofs.Lengths.{length_substituted, length_without}
 use Rattle.elim_core.proofs.Whole.{last_is}
 
@@ -84,12 +84,16 @@ relieved_length n e rest after f r =
     ]
 
 pub reduces_trans : (n : ℕ) (a b c : List PartRow) → Reduces n a b → Reduces n b c → Reduces n a c
-reduces_trans n a b c r s = record { derives = λ base d. s.derives base (r.derives base d); keeps = λ x q l p m. r.keeps x q l p (s.keeps x q l p m) }
+reduces_trans n a b c r s = record { widths = λ width w. s.widths width (r.widths width w); derives = λ base d. s.derives base (r.derives base d); keeps = λ x q l p m. r.keeps x q l p (s.keeps x q l p m) }
 
 -- one turn: the first equality joins those that are done, and the other rows are relieved of it
 turn : (n width : ℕ) (done rest after : List PartRow) (e : PartRow) → first_equality rest ≡ Some e → AllRows (Wide width) rest → Relieved n e (without_equality rest) after
     → Reduces n (done ++ rest) ((done ++ (e ∷ [])) ++ after)
 turn n width done rest after e f w r = record {
+  widths = λ k a.
+      let s = all_split (Wide k) done rest a in
+      all_append (Wide k) (done ++ (e ∷ [])) after (all_append (Wide k) done (e ∷ []) s.0 ((at_first_equality (Wide k) rest e f s.1).0, tt))
+      (relieved_wide n k e rest after f r s.1);
   derives = λ base d.
       let s = all_split (Derived n base) done rest d in
       let h = at_first_equality (Derived n base) rest e f s.1 in
@@ -107,3 +111,14 @@ turn n width done rest after e f w r = record {
 pub turned_on : (n width : ℕ) (rows done rest after : List PartRow) (e : PartRow) → Reduces n rows (done ++ rest) → first_equality rest ≡ Some e → AllRows (Wide width) rest → Relieved n e (without_equality rest) after
     → Reduces n rows ((done ++ (e ∷ [])) ++ after)
 turned_on n width rows done rest after e g f w r = reduces_trans n rows (done ++ rest) ((done ++ (e ∷ [])) ++ after) g (turn n width done rest after e f w r)
+
+-- where no row is a contradiction, look and prune lose nothing
+pub tidied_reduces : (n : ℕ) (ws : List PartRow) → refutation_of n ws ≡ None → Reduces n ws (tidied n ws)
+tidied_reduces n ws e = record {
+  widths = λ width w. wide_tidied width n ws w;
+  derives = λ base d. all_tidied (Derived n base) n ws d;
+  keeps = λ x q l p m.
+      from_tidied_at ws x q p
+      (subst (λ (k : ℕ). AllRows (λ w. is_contradiction k w ≡ false) ws) (sym l) (no_refutation n ws e))
+      (subst (λ (k : ℕ). MeetsAll (tidied k ws) (x ++ (q ∷ []))) (sym l) m);
+}

@@ -1,6 +1,7 @@
 pub mod Gcd
 pub mod Elimination
 pub mod RowLists
+pub mod Marks
 pub mod Multipliers
 pub mod Reductions
 pub mod Causes

@@ -6,14 +6,16 @@ use Rattle.relation_core.specs.Points.{MeetsAll, HasPoint}
 use Rattle.farkas_cert.specs.Certificates.{Valid}
 use Rattle.elim_core.specs.Elimination.{is_constant, last_variable, substituted}
 use Rattle.elim_core.specs.Multipliers.{Derived}
-use Rattle.elim_core.specs.RowLists.{AllRows}
+use Rattle.elim_core.specs.RowLists.{AllRows, Wide}
 
 -- where the rows after some steps hold, over n variables, so do the rows before them
 abbrev pub KeepsPoints : ℕ → List PartRow → List PartRow → Type 0
 KeepsPoints n before after = (x : List ℤ) (q : ℤ) → length x ≡ n → pos 1 ≤ℤ q → MeetsAll after (x ++ (q ∷ [])) → MeetsAll before (x ++ (q ∷ []))
 
--- steps that keep what the multipliers are, whatever the system, and lose no row's meaning
+-- steps that keep what the multipliers are, whatever the system, and the number of entries, and lose
+-- no row's meaning
 pub record Reduces (n : ℕ) (before after : List PartRow) : Type 0 where
+  pub widths : (width : ℕ) → AllRows (Wide width) before → AllRows (Wide width) after
   pub derives : (base : List PartRow) → AllRows (Derived n base) before → AllRows (Derived n base) after
   pub keeps : KeepsPoints n before after
 

@@ -7,6 +7,7 @@ mod counts;
 mod decision_tests;
 mod decisions;
 mod division;
+mod marks;
 mod orders;
 mod phases;
 mod projections;

@@ -8,6 +8,7 @@ ghost use Rattle.elim_core.specs.Reductions.{IsReduction, Reduces, Relieved, wid
 use crate::counts::{row_count, variable_count};
 use crate::starts::{start, start_from};
 use crate::substitutions::{substitute_copies, take_equality};
+use crate::tidying::{find_contradiction, tidy};
 use crate::verdicts::ElimFail;
 use crate::working_rows::{WorkingRow, is_constant, last_variable};
 use relation_core::Part;
@@ -58,7 +59,7 @@ fn widen<R: Row>(
 ) -> Result<Vec<WorkingRow<R>>, NoMemory>
     ensures { IfOk result (λ made. made.items ≡ map (widened count) rows.now) }
 {
-    let mut made = Vec::new(alloc);
+    let mut made = Vec::with_capacity(alloc, rows.len())?;
     for w in rows {
         let wide = w.widened(alloc, count)?;
         made.push(wide)?;
@@ -74,7 +75,8 @@ pub fn reduce<R: Row>(alloc: Global, base: &Part) -> Result<Reduced<R>, NoMemory
     let n = variable_count(base);
     let width = n + 1 + row_count(base);
     let started = start::<R>(alloc, base)?;
-    let rows = relieve_all(alloc, n, width, started)?;
+    let relieved = relieve_all(alloc, n, width, started)?;
+    let rows = tidy_sound(alloc, n, width, relieved)?;
     let base = copied(alloc, base)?;
     Ok(Reduced { base, rows })
 }
@@ -86,6 +88,26 @@ fn copied(alloc: Global, part: &Part) -> Result<Part, NoMemory>
     let mut made = Part::new(alloc, part.shape());
     made.conjoin(part)?;
     Ok(made)
+}
+
+// The rows that have variables, pruned; the same rows where one of them is a contradiction.
+fn tidy_sound<R: Row>(
+    alloc: Global,
+    n: usize,
+    width: usize,
+    rows: Vec<WorkingRow<R>>,
+) -> Result<Vec<WorkingRow<R>>, NoMemory>
+    requires fits { n < width }
+    requires wide { AllRows (Wide width) rows.items }
+    ensures { IfOk result (λ made. Reduces n rows.items made.items) }
+{
+    match find_contradiction(n, width, rows.as_slice()) {
+        Some(_) => Ok(rows),
+        None => {
+            let kept = tidy(alloc, n, width, rows)?;
+            Ok(kept)
+        }
+    }
 }
 
 // The rows after each equality is substituted in the rows that no earlier one has left behind. The

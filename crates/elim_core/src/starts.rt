@@ -15,7 +15,7 @@ use suite_base::NoMemory;
 pub fn start<R: Row>(alloc: Global, system: &Part) -> Result<Vec<WorkingRow<R>>, NoMemory>
     ensures { IfOk result (λ rows. rows.items ≡ started system.now.rows) }
 {
-    let mut rows = Vec::new(alloc);
+    let mut rows = Vec::with_capacity(alloc, system.row_count())?;
     start_from(alloc, system, 0, &mut rows)?;
     Ok(rows)
 }
@@ -43,18 +43,25 @@ fn starting_cells(alloc: Global, system: &Part, i: usize) -> Result<Vec<Coeff>, 
     requires { i < length system.now.rows }
     ensures { IfOk result (λ cells. cells.items ≡ (row_at system.now.rows i).entries ++ unit i (length system.now.rows)) }
 {
-    let mut cells = row_entries(alloc, system, i)?;
+    let mut cells = row_entries(alloc, system, i, system.row_count())?;
     push_unit(&mut cells, i, system.row_count())?;
     Ok(cells)
 }
 
-// The entries of row `i`.
-fn row_entries(alloc: Global, system: &Part, i: usize) -> Result<Vec<Coeff>, NoMemory>
+// The entries of row `i`, with room for `spare` more.
+fn row_entries(
+    alloc: Global,
+    system: &Part,
+    i: usize,
+    spare: usize,
+) -> Result<Vec<Coeff>, NoMemory>
     requires { i < length system.now.rows }
     ensures { IfOk result (λ cells. cells.items ≡ (row_at system.now.rows i).entries) }
 {
     let row = &system.rows()[i];
-    Ok(Vec::from_slice(alloc, row.entries.as_slice())?)
+    let mut cells = Vec::with_capacity(alloc, row.entries.len().saturating_add(spare))?;
+    cells.extend_from_slice(row.entries.as_slice())?;
+    Ok(cells)
 }
 
 // Appends `count` multipliers, which are 0 but for a 1 at place `i`.

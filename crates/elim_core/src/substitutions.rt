@@ -46,7 +46,7 @@ pub fn substitute<R: Row>(
     ensures overflow { IfErr result (λ fail. fail ≡ ElimFail.Overflow → 2 ^ 127 ≤ substituted_weight j e.now rows.items) }
     ensures rows { IfErr result (λ fail. ¬ (fail ≡ ElimFail.TooManyRows)) }
 {
-    let mut made = Vec::new(alloc);
+    let mut made = Vec::with_capacity(alloc, rows.len())?;
     for w in rows {
         let next = substitute_row(alloc, j, e, w)?;
         made.push(next)?;
@@ -88,7 +88,7 @@ pub fn substitute_copies<R: Row>(
     requires wide { AllRows (Wide width) rows.now }
     ensures { IfOk result (λ made. made.items ≡ substituted j e.now rows.now) }
 {
-    let mut made = Vec::new(alloc);
+    let mut made = Vec::with_capacity(alloc, rows.len())?;
     for w in rows {
         let next = substitute_copy(alloc, j, e, w)?;
         made.push(next)?;

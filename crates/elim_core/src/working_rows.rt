@@ -81,7 +81,7 @@ impl<R: Row> WorkingRow<R> {
     pub fn widened(&self, alloc: Global, count: usize) -> Result<WorkingRow<R>, NoMemory>
         ensures { IfOk result (λ w. w ≡ record { kind = self.now.kind; entries = self.now.entries ++ replicate count (pos 0) }) }
     {
-        let mut cells = cells_of(alloc, &self.row)?;
+        let mut cells = cells_of(alloc, &self.row, count)?;
         push_zeros(&mut cells, count)?;
         let row = R::from_coeffs(alloc, cells.as_slice())?;
         Ok(WorkingRow {
@@ -114,11 +114,11 @@ impl<R: Row> WorkingRow<R> {
     }
 }
 
-// The entries of a row.
-fn cells_of<R: Row>(alloc: Global, row: &R) -> Result<Vec<Coeff>, NoMemory>
+// The entries of a row, with room for `spare` more.
+fn cells_of<R: Row>(alloc: Global, row: &R, spare: usize) -> Result<Vec<Coeff>, NoMemory>
     ensures { IfOk result (λ cells. cells.items ≡ R.coefficients row.now) }
 {
-    let mut cells = Vec::new(alloc);
+    let mut cells = Vec::with_capacity(alloc, row.len().saturating_add(spare))?;
     for k in 0..row.len() {
         cells.push(row.get(k))?;
     }
