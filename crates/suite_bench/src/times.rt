@@ -67,13 +67,13 @@ impl Totals {
     }
 }
 
-/// The time of the check of a wide certificate, and how many of 1,000 checks stayed in the range.
+/// The time in which a certificate of 256 multipliers is made and checked, and how many of 1,000 checks stayed in the range.
 pub fn check_time(clock: &impl Clock, alloc: Global) -> Result<(u128, u32), Fail> {
     let system = wide_system(alloc)?;
     let mut light: u32 = 0;
-    let certificate = ones(alloc, 256)?;
     let start = Instant::now(clock)?;
     for _ in 0..1_000 {
+        let certificate = ones(alloc, 256)?;
         if check(&system, &certificate).is_ok() {
             light = light.saturating_add(1);
         }
