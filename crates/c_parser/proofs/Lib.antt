@@ -2,3 +2,8 @@ pub mod NumberLemmas
 pub mod Turns
 pub mod ValueLemmas
 pub mod StatementLemmas
+pub mod TokenFacts
+pub mod Yields
+pub mod ValueYields
+pub mod StatementYields
+pub mod RegionLemmas
