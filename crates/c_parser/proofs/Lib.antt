@@ -6,4 +6,7 @@ pub mod TokenFacts
 pub mod Yields
 pub mod ValueYields
 pub mod StatementYields
+pub mod Comes
+pub mod ValueComes
+pub mod StatementComes
 pub mod RegionLemmas

@@ -26,8 +26,8 @@ use Rattle.c_parser.specs.Grammar.{Phrase, ◌then◌, token, word, empty, each,
 use Rattle.c_parser.specs.Derivations as d
 use Rattle.c_parser.specs.Derivations.{assign_token, bytes_of, same, is_up, Derived}
 use Rattle.c_parser.proofs.TokenFacts.{seen, is_same, not_same, some_is, not_true, not_seen, left_after}
-use Rattle.c_parser.proofs.Yields.{Yields, then_yields, take_yields, if_yields, choose_yields, expect_yields, yields_so, opened, eat_yields, open_cases, some_nests}
-use Rattle.c_parser.proofs.ValueYields.{rel_back, target_yields, value_yields, nested_sound}
+use Rattle.c_parser.proofs.Yields.{Yields, then_yields, take_yields, if_yields, choose_yields, expect_yields, yields_so, opened, eat_yields, some_nests, Takes, then_takes, take_takes, open_takes, opened_takes, takes_yields}
+use Rattle.c_parser.proofs.ValueYields.{rel_back, target_takes, value_yields, nested_sound}
 
 pub assign_back : (k : Symbol) (x : AssignSign) → assign_sign k ≡ Some x → k ≡ assign_token x
 assign_back s.Assign x e = ap assign_token (some_is e)
@@ -137,10 +137,10 @@ module _ (nests : ℕ) where
       let S : Sum → Type 0 = λ z. (nested nests).sum z r4 r5 in
       (e.2, (d1.0, (r1, d1.1, (r2, d2, (r3, subst N (sym e.0) d3, (r4, (d4.0, d4.2), (r5, subst S (sym e.1) d5, (r6, (d6.0, d6.2), e.3)))))))))))))))
 
-  pub assign_yields : (r : Reading) → Yields r (λ a m. d.assignment nests a r m) (assign nests r)
+  pub assign_takes : (r : Reading) → Takes r (λ a m. d.assignment nests a r m) (assign nests r)
   unfolding assign
-  assign_yields r =
-      then_yields r _ (λ a m. d.assignment nests a r m) _ _ (target_yields nests (below nests) (nested nests) (nested_sound nests) r) (λ t r1 d1.
+  assign_takes r =
+      then_takes r _ (λ a m. d.assignment nests a r m) _ _ (target_takes nests (below nests) (nested nests) (nested_sound nests) r) (λ t r1 d1.
       then_yields r1 _ (λ a m. d.assignment nests a r m) _ _ (assigned_yields r1) (λ mark r2 d2.
       then_yields r2 _ (λ a m. d.assignment nests a r m) _ _ (value_yields nests (below nests) (nested nests) (nested_sound nests) r2) (λ v r3 d3.
       then_yields r3 _ (λ a m. d.assignment nests a r m) _ _ (expect_yields s.Semicolon r3) (λ x4 r4 d4.
@@ -149,28 +149,28 @@ module _ (nests : ℕ) where
 -- ---- statements
 
 module _ (nests loops : ℕ) (inner body : Parser Node) (nest_form loop_form : Node → Phrase)
-    (inners : (r : Reading) → Yields r (λ t m. nest_form t r m) (inner r)) (bodies : (r : Reading) → Yields r (λ t m. loop_form t r m) (body r)) where
+    (inners : (r : Reading) → Takes r (λ t m. nest_form t r m) (inner r)) (bodies : (r : Reading) → Takes r (λ t m. loop_form t r m) (body r)) where
 
   abbrev Is : Reading → Node → Reading → Type 0
   Is r t m = d.IsStatement nests loops nest_form loop_form t r m
 
-  some_loops : {B : Type 0} (n : ℕ) (r : Reading) (Q : B → Reading → Type 0) (q : Parser B) → (0 < n → Yields r Q (q r)) → Yields r Q ((open_loop n >> q) r)
+  some_loops : {B : Type 0} (n : ℕ) (r : Reading) (Q : B → Reading → Type 0) (q : Parser B) → (0 < n → Takes r Q (q r)) → Takes r Q ((open_loop n >> q) r)
   unfolding open_loop
-  some_loops n r Q q h = open_cases r Q (n == 0) _ q (λ e. h (some_nests n e))
+  some_loops n r Q q h = open_takes r Q (n == 0) _ q (λ e. h (some_nests n e))
 
-  for_yields : (r : Reading) → symbol r ≡ s.For → Yields r (Is r) (for_loop nests loops body r)
+  for_takes : (r : Reading) → symbol r ≡ s.For → Takes r (Is r) (for_loop nests loops body r)
   unfolding for_loop
-  for_yields r e =
-      some_loops loops r (Is r) _ (λ some. take_yields r (Is r) _
+  for_takes r e =
+      some_loops loops r (Is r) _ (λ some. take_takes s.For r (Is r) _ e ((λ f. absurd (cc)), (λ f. absurd (cc)))
       (then_yields (after r) _ (Is r) _ _ (head_yields nests (after r)) (λ h r1 d1.
-      then_yields r1 _ (Is r) _ _ (bodies r1) (λ t r2 d2.
+      then_yields r1 _ (Is r) _ _ (takes_yields r1 _ _ (bodies r1)) (λ t r2 d2.
       (omega arith, d.IsStatement.loop h t refl some (after r, (e, refl), (r1, d1, d2)))))))
 
   branch_yields : (r : Reading) → Yields r (λ t m. g.nest nests (nest_form t) r m) (branch nests inner r)
   unfolding branch
   branch_yields r =
       choose_yields r (λ t m. g.nest nests (nest_form t) r m) (begins_statement (symbol r)) _ _
-      (λ e. opened nests r (λ t m. g.nest nests (nest_form t) r m) _ (λ some. yields_so r _ (λ t m. g.nest nests (nest_form t) r m) _ (inners r) (λ t m k. (some, k))))
+      (λ e. opened nests r (λ t m. g.nest nests (nest_form t) r m) _ (λ some. yields_so r _ (λ t m. g.nest nests (nest_form t) r m) _ (takes_yields r _ _ (inners r)) (λ t m k. (some, k))))
       (λ e. tt)
 
   else_yields : (r : Reading) → Yields r (λ t m. d.alternative nests loops nest_form loop_form t r m) (else_branch nests inner r)
@@ -180,10 +180,10 @@ module _ (nests loops : ℕ) (inner body : Parser Node) (nest_form loop_form : N
       (λ e. then_yields (after r) _ (λ t m. d.alternative nests loops nest_form loop_form t r m) _ _ (branch_yields (after r)) (λ t m k. (omega arith, (after r, (e, refl), k))))
       (λ e. (omega arith, (not_seen s.Else r e, refl)))
 
-  if_branch_yields : (r : Reading) → symbol r ≡ s.If → Yields r (Is r) (if_branch nests inner r)
+  if_branch_takes : (r : Reading) → symbol r ≡ s.If → Takes r (Is r) (if_branch nests inner r)
   unfolding if_branch
-  if_branch_yields r e =
-      take_yields r (Is r) _ (then_yields (after r) _ (Is r) _ _ (round_yields nests (after r)) (λ x1 r1 d1.
+  if_branch_takes r e =
+      take_takes s.If r (Is r) _ e ((λ f. absurd (cc)), (λ f. absurd (cc))) (then_yields (after r) _ (Is r) _ _ (round_yields nests (after r)) (λ x1 r1 d1.
       then_yields r1 _ (Is r) _ _ ((nested_sound nests).value r1) (λ condition r2 d2.
       then_yields r2 _ (Is r) _ _ (expect_yields s.CloseRound r2) (λ x3 r3 d3.
       then_yields r3 _ (Is r) _ _ (branch_yields r3) (λ one r4 d4.
@@ -199,41 +199,41 @@ module _ (nests loops : ℕ) (inner body : Parser Node) (nest_form loop_form : N
   nodes_yield (suc n) found r =
       eat_yields s.CloseCurly r (Block r found) (λ is_closed. if is_closed then pure found else (do next ← inner; block_from inner n (found ++ next ∷ [])))
       (λ e. (omega arith, ([], append-nil found, (r, refl, (e, refl)))))
-      (λ e. then_yields r _ (Block r found) _ _ (inners r) (λ t m k.
+      (λ e. then_yields r _ (Block r found) _ _ (takes_yields r _ _ (inners r)) (λ t m k.
       yields_so m (Block m (found ++ t ∷ [])) (Block r found) _ (nodes_yield n (found ++ t ∷ []) m) (λ all z j.
       (t ∷ j.0, sym (append_assoc found (t ∷ []) j.0) ∙ j.1, (j.2.0, (m, k, j.2.1), j.2.2)))))
 
-  block_yields : (r : Reading) → symbol r ≡ s.OpenCurly → Yields r (Is r) (block nests inner r)
+  block_takes : (r : Reading) → symbol r ≡ s.OpenCurly → Takes r (Is r) (block nests inner r)
   unfolding block block_nodes
-  block_yields r e =
-      opened nests r (Is r) _ (λ some. take_yields r (Is r) _
+  block_takes r e =
+      opened_takes nests r (Is r) _ (λ some. take_takes s.OpenCurly r (Is r) _ e ((λ f. absurd (cc)), (λ f. absurd (cc)))
       (then_yields (after r) _ (Is r) _ _ (nodes_yield (left (after r)) [] (after r)) (λ all m k.
       let P : List Node → Type 0 = λ x. (each nest_form x then token s.CloseCurly) (after r) m in
       (omega arith, d.IsStatement.block all refl (some, (after r, (e, refl), subst P k.1 k.2))))))
 
-  by_yields : (k : Symbol) (r : Reading) → symbol r ≡ k → Yields r (Is r) (statement_by nests loops inner body k r)
-  by_yields s.For r e = for_yields r e
-  by_yields s.If r e = if_branch_yields r e
-  by_yields s.OpenCurly r e = block_yields r e
-  by_yields s.Semicolon r e = take_yields r (Is r) (Ok (node.Empty, after r)) (omega arith, d.IsStatement.blank refl (e, refl))
-  by_yields s.Name r e = then_yields r _ (Is r) _ _ (assign_yields nests r) (λ a m k. (omega arith, d.IsStatement.assign a refl k))
-  by_yields _ r e = tt
+  by_takes : (k : Symbol) (r : Reading) → symbol r ≡ k → Takes r (Is r) (statement_by nests loops inner body k r)
+  by_takes s.For r e = for_takes r e
+  by_takes s.If r e = if_branch_takes r e
+  by_takes s.OpenCurly r e = block_takes r e
+  by_takes s.Semicolon r e = take_takes s.Semicolon r (Is r) (Ok (node.Empty, after r)) e ((λ f. absurd (cc)), (λ f. absurd (cc))) (omega arith, d.IsStatement.blank refl (e, refl))
+  by_takes s.Name r e = then_takes r _ (Is r) _ _ (assign_takes nests r) (λ a m k. (omega arith, d.IsStatement.assign a refl k))
+  by_takes _ r e = tt
 
-  pub rule_yields : (r : Reading) → Yields r (Is r) (statement_rule nests loops inner body r)
+  pub rule_takes : (r : Reading) → Takes r (Is r) (statement_rule nests loops inner body r)
   unfolding statement_rule
-  rule_yields r = by_yields (symbol r) r refl
+  rule_takes r = by_takes (symbol r) r refl
 
-pub level_yields : (nests : ℕ) (inner : ℕ → Parser Node) (form : ℕ → Node → Phrase) → ((loops : ℕ) (r : Reading) → Yields r (λ t m. form loops t r m) (inner loops r))
-    → (loops : ℕ) (r : Reading) → Yields r (λ t m. d.level nests form loops t r m) (level nests inner loops r)
+pub level_takes : (nests : ℕ) (inner : ℕ → Parser Node) (form : ℕ → Node → Phrase) → ((loops : ℕ) (r : Reading) → Takes r (λ t m. form loops t r m) (inner loops r))
+    → (loops : ℕ) (r : Reading) → Takes r (λ t m. d.level nests form loops t r m) (level nests inner loops r)
 unfolding level
-level_yields nests inner form h zero r = rule_yields nests zero (inner zero) refuse (form zero) (λ t. g.none) (h zero) (λ r. tt) r
-level_yields nests inner form h (suc loops) r =
-    rule_yields nests (suc loops) (inner (suc loops)) (level nests inner loops) (form (suc loops)) (d.level nests form loops) (h (suc loops)) (level_yields nests inner form h loops) r
+level_takes nests inner form h zero r = rule_takes nests zero (inner zero) refuse (form zero) (λ t. g.none) (h zero) (λ r. tt) r
+level_takes nests inner form h (suc loops) r =
+    rule_takes nests (suc loops) (inner (suc loops)) (level nests inner loops) (form (suc loops)) (d.level nests form loops) (h (suc loops)) (level_takes nests inner form h loops) r
 
-pub statement_yields : (nests loops : ℕ) (r : Reading) → Yields r (λ t m. d.statement nests loops t r m) (statement nests loops r)
+pub statement_takes : (nests loops : ℕ) (r : Reading) → Takes r (λ t m. d.statement nests loops t r m) (statement nests loops r)
 unfolding statement
-statement_yields zero loops r = level_yields zero (λ loops. refuse) (λ loops t. g.none) (λ loops r. tt) loops r
-statement_yields (suc nests) loops r = level_yields (suc nests) (statement nests) (d.statement nests) (statement_yields nests) loops r
+statement_takes zero loops r = level_takes zero (λ loops. refuse) (λ loops t. g.none) (λ loops r. tt) loops r
+statement_takes (suc nests) loops r = level_takes (suc nests) (statement nests) (d.statement nests) (statement_takes nests) loops r
 
 abbrev Region : Reading → List Node → List Node → Reading → Type 0
 Region r found all m = (more : List Node) × (found ++ more ≡ all) × Derived 64 12 more r
@@ -244,7 +244,7 @@ from_yields zero found r = then_yields r _ (Region r found) _ _ (expect_yields s
 from_yields (suc n) found r =
     choose_yields r (Region r found) (same_symbol (symbol r) s.End) _ _
     (λ e. (omega arith, ([], append-nil found, (r, refl, is_same (symbol r) s.End e))))
-    (λ e. then_yields r _ (Region r found) _ _ (statement_yields 64 12 r) (λ t m k.
+    (λ e. then_yields r _ (Region r found) _ _ (takes_yields r _ _ (statement_takes 64 12 r)) (λ t m k.
     yields_so m (Region m (found ++ t ∷ [])) (Region r found) _ (from_yields n (found ++ t ∷ []) m) (λ all z j.
     (t ∷ j.0, sym (append_assoc found (t ∷ []) j.0) ∙ j.1, (j.2.0, (m, k, j.2.1), j.2.2)))))
 

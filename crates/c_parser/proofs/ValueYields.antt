@@ -33,7 +33,7 @@ use Rattle.c_parser.specs.Values.{Rules, no_rules, signed_from, separated_from, 
 use Rattle.c_parser.specs.Grammar as g
 use Rattle.c_parser.specs.Grammar.{Phrase, ◌then◌, token, word, empty, each, equal_token, rel_token, sum_token, product_token, unary_token, Forms, no_forms, nested}
 use Rattle.c_parser.proofs.TokenFacts.{seen, is_same, some_is}
-use Rattle.c_parser.proofs.Yields.{Yields, then_yields, take_yields, choose_yields, expect_yields, yields_so, opened, all_signed, all_separated}
+use Rattle.c_parser.proofs.Yields.{Yields, then_yields, take_yields, choose_yields, expect_yields, yields_so, opened, Takes, then_takes, take_takes, expect_takes, opened_takes, takes_yields, all_signed, all_separated}
 
 -- ---- a sign is the token that it is read from
 
@@ -78,10 +78,10 @@ pub record Sound (inner : Rules) (forms : Forms) : Type 0 where
 
 module _ (nests : ℕ) (inner : Rules) (forms : Forms) (h : Sound inner forms) where
 
-  pub subscript_yields : (r : Reading) → symbol r ≡ s.OpenSquare → Yields r (λ t m. g.subscript nests forms t r m) (subscript nests inner r)
+  pub subscript_takes : (r : Reading) → symbol r ≡ s.OpenSquare → Takes r (λ t m. g.subscript nests forms t r m) (subscript nests inner r)
   unfolding subscript
-  subscript_yields r e =
-      opened nests r (λ t m. g.subscript nests forms t r m) _ (λ some. take_yields r (λ t m. g.subscript nests forms t r m) _
+  subscript_takes r e =
+      opened_takes nests r (λ t m. g.subscript nests forms t r m) _ (λ some. take_takes s.OpenSquare r (λ t m. g.subscript nests forms t r m) _ e ((λ f. absurd (cc)), (λ f. absurd (cc)))
       (then_yields (after r) _ (λ t m. g.subscript nests forms t r m) _ _ (h.sum (after r)) (λ a m d.
       then_yields m _ (λ t m. g.subscript nests forms t r m) _ _ (expect_yields s.CloseSquare m) (λ p n w.
       (omega arith, (some, (after r, (e, refl), (m, d, (w.0, w.2)))))))))
@@ -94,7 +94,7 @@ module _ (nests : ℕ) (inner : Rules) (forms : Forms) (h : Sound inner forms) w
   subscripts_yield zero found r = tt
   subscripts_yield (suc n) found r =
       choose_yields r (Subscripts r found) (same_symbol (symbol r) s.OpenSquare) _ _
-      (λ e. then_yields r _ (Subscripts r found) _ _ (subscript_yields r (is_same (symbol r) s.OpenSquare e)) (λ a m d.
+      (λ e. then_yields r _ (Subscripts r found) _ _ (takes_yields r _ _ (subscript_takes r (is_same (symbol r) s.OpenSquare e))) (λ a m d.
       yields_so m (Subscripts m (found ++ a ∷ [])) (Subscripts r found) _ (subscripts_yield n (found ++ a ∷ []) m) (λ all z k.
       (a ∷ k.0, sym (append_assoc found (a ∷ []) k.0) ∙ k.1, (m, d, k.2)))))
       (λ e. (omega arith, ([], append-nil found, refl)))
@@ -103,10 +103,10 @@ module _ (nests : ℕ) (inner : Rules) (forms : Forms) (h : Sound inner forms) w
   unfolding subscripts
   all_subscripts r = yields_so r _ _ _ (subscripts_yield (left r) [] r) (λ all m k. let P : List Sum → Type 0 = λ x. each (g.subscript nests forms) x r m in subst P k.1 k.2)
 
-  pub target_yields : (r : Reading) → Yields r (λ t m. g.IsTarget nests forms t r m) (target nests inner r)
+  pub target_takes : (r : Reading) → Takes r (λ t m. g.IsTarget nests forms t r m) (target nests inner r)
   unfolding target
-  target_yields r =
-      then_yields r _ _ _ _ (expect_yields s.Name r) (λ name m w.
+  target_takes r =
+      then_takes r _ _ _ _ (expect_takes s.Name r ((λ f. absurd (cc)), (λ f. absurd (cc)))) (λ name m w.
       then_yields m _ _ _ _ (all_subscripts m) (λ found n d.
       (omega arith, record { name = name; subscripts = found; is = refl; derived = (m, w, d) })))
 

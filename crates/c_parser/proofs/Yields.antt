@@ -12,7 +12,7 @@ use Rattle.c_parser.specs.Input.{Outcome, Parser, and_then, ◌>>=◌, ◌>>◌,
 use Rattle.c_parser.specs.Values.{go_on, signed_from, separated_from, separated}
 use Rattle.c_parser.specs.Grammar as g
 use Rattle.c_parser.specs.Grammar.{Phrase, ◌then◌, token, word, empty, signed, others, each}
-use Rattle.c_parser.proofs.TokenFacts.{seen, is_same, not_same, some_is, left_after, not_true}
+use Rattle.c_parser.proofs.TokenFacts.{seen, is_same, not_same, some_is, left_after, left_less, not_true}
 
 -- what is known of what a parser reads; reading goes on, never back
 abbrev pub Yields : {A : Type 0} → Reading → (A → Reading → Type 0) → Outcome A → Type 0
@@ -71,6 +71,49 @@ open_cases r Q false e q h = h refl
 pub opened : {B : Type 0} (nests : ℕ) (r : Reading) (Q : B → Reading → Type 0) (q : Parser B) → (0 < nests → Yields r Q (q r)) → Yields r Q ((open_nest nests >> q) r)
 unfolding open_nest
 opened nests r Q q h = open_cases r Q (nests == 0) _ q (λ e. h (some_nests nests e))
+
+-- ---- rules that take a token at least
+
+abbrev pub Takes : {A : Type 0} → Reading → (A → Reading → Type 0) → Outcome A → Type 0
+Takes r P (Ok y) = (left y.1 < left r) × P y.0 y.1
+Takes r P (Err e) = Unit {0}
+
+pub takes_yields : {A : Type 0} (r : Reading) (P : A → Reading → Type 0) (o : Outcome A) → Takes r P o → Yields r P o
+takes_yields r P (Ok y) h = (omega (arith, h.0), h.1)
+takes_yields r P (Err e) h = tt
+
+narrower : {A : Type 0} (r m : Reading) (P : A → Reading → Type 0) (o : Outcome A) → left m < left r → Yields m P o → Takes r P o
+narrower r m P (Ok y) h k = (omega (arith, k.0, h), k.1)
+narrower r m P (Err e) h k = tt
+
+pub then_takes : {A B : Type 0} (r : Reading) (P : A → Reading → Type 0) (Q : B → Reading → Type 0) (o : Outcome A) (f : A → Parser B)
+    → Takes r P o → ((a : A) (m : Reading) → P a m → Yields m Q (f a m)) → Takes r Q (and_then o f)
+then_takes r P Q (Ok y) f h k = narrower r y.1 Q (f y.0 y.1) h.0 (k y.0 y.1 h.1)
+then_takes r P Q (Err e) f h k = tt
+
+-- a symbol that is one of a token
+abbrev pub IsToken : Symbol → Type 0
+IsToken k = (k ≡ s.End → ⊥) × (k ≡ s.Bad → ⊥)
+
+pub take_takes : {B : Type 0} (k : Symbol) (r : Reading) (Q : B → Reading → Type 0) (o : Outcome B) → symbol r ≡ k → IsToken k → Yields (after r) Q o → Takes r Q o
+take_takes k r Q o e h g = narrower r (after r) Q o (left_less r (λ f. h.0 (sym e ∙ f)) (λ f. h.1 (sym e ∙ f))) g
+
+pub expect_takes : (k : Symbol) (r : Reading) → IsToken k → Takes r (λ p m. word k p r m) (expect k r)
+unfolding expect
+expect_takes k r h = go (sees k r) refl
+  where
+    go : (b : Bool) → sees k r ≡ b → Takes r (λ p m. word k p r m) (if b then Ok (piece r, after r) else refuse r)
+    go true e = take_takes k r (λ p m. word k p r m) (Ok (piece r, after r)) (seen k r e) h (omega arith, (seen k r e, refl, refl))
+    go false e = tt
+
+pub open_takes : {B : Type 0} (r : Reading) (Q : B → Reading → Type 0) (b : Bool) (e : Stop) (q : Parser B) → (b ≡ false → Takes r Q (q r))
+    → Takes r Q (and_then (if b then Err e else Ok (tt, r)) (λ (x : Unit {0}). q))
+open_takes r Q true e q h = tt
+open_takes r Q false e q h = h refl
+
+pub opened_takes : {B : Type 0} (nests : ℕ) (r : Reading) (Q : B → Reading → Type 0) (q : Parser B) → (0 < nests → Takes r Q (q r)) → Takes r Q ((open_nest nests >> q) r)
+unfolding open_nest
+opened_takes nests r Q q h = open_takes r Q (nests == 0) _ q (λ e. h (some_nests nests e))
 
 -- ---- repetition
 

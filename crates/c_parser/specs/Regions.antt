@@ -20,6 +20,16 @@ reading_at bytes span = record { text = take span.to bytes; at = span.from }
 abbrev pub IsRegion : List ℕ → Span → List Node → Type 0
 IsRegion bytes span nodes = Derived 64 12 nodes (reading_at bytes span)
 
+-- the answer is this tree, unless memory is wanting
+abbrev pub Answers : List Node → Result Region Fail → Type 0
+Answers nodes (Ok found) = found.nodes ≡ nodes
+Answers nodes (Err fail.Memory) = Unit {0}
+Answers nodes (Err (fail.Refused refusal)) = ⊥
+
+-- each tree that the span's tokens are derived to is answered
+abbrev pub Completes : List ℕ → Span → Result Region Fail → Type 0
+Completes bytes span result = (nodes : List Node) → IsRegion bytes span nodes → Answers nodes result
+
 -- ---- by the rules that read
 
 abbrev pub answer_of : {A : Type 0} → Outcome A → Result A Stop
