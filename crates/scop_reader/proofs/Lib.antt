@@ -22,3 +22,4 @@ mod Checks
 pub mod FewerLines
 pub mod GlobalTurns
 pub mod OpenLines
+pub mod ReadScops
