@@ -10,4 +10,12 @@ pub mod GrammarStatements
 pub mod GrammarWhole
 pub mod GrammarConditions
 pub mod GrammarProper
+pub mod LineExtents
+pub mod ReadingLemmas
+pub mod WordColumns
+pub mod NumberRuns
+pub mod Turns
+pub mod LastBytes
+pub mod NameLines
+pub mod KeptLines
 mod Checks

@@ -112,12 +112,18 @@ header_limit role k header =
 abbrev pub is_shaped : Role → Header → Bool
 is_shaped role header = (header.columns == columns header.shape + 2) && suits role header.shape
 
+-- a line of six numbers
+unfoldable pub counts_line : Reader (Line × Header)
+counts_line = do
+  found ← number_line 6 is_count
+  pure (found.0, header_of (naturals found.1))
+
 unfoldable pub header_line : Role → ℕ → Reader Header
 header_line role k = do
-  found ← number_line 6 is_count
-  check (is_shaped role (header_of (naturals found.1))) (BadScop found.0.number)
-  unless (header_limit role k (header_of (naturals found.1)))
-  pure (header_of (naturals found.1))
+  found ← counts_line
+  check (is_shaped role found.1) (BadScop found.0.number)
+  unless (header_limit role k found.1)
+  pure found.1
 
 -- the first number of a row: 0 for an equality, 1 for an inequality
 abbrev pub is_kind : ℤ → Bool
@@ -317,13 +323,13 @@ extension special rule found = do
   line ← said_line
   check (is_opening (content line.bytes)) (BadScop line.number)
   if bytes_eq (opened_name (content line.bytes)) special
-    then (do
-      check (is_none found.special) (BadScop line.number)
-      made ← rule
-      pure (record found { special = Some made }))
-    else (do
-      made ← kept (opened_name (content line.bytes))
-      pure (record found { others = found.others ++ made ∷ [] }))
+      then (do
+        check (is_none found.special) (BadScop line.number)
+        made ← rule
+        pure (record found { special = Some made }))
+      else (do
+        made ← kept (opened_name (content line.bytes))
+        pure (record found { others = found.others ++ made ∷ [] }))
 
 -- n more extensions of a statement
 unfoldable pub extensions_from : ℕ → ℕ → Extensions Body → Reader (Extensions Body)
@@ -386,7 +392,7 @@ unfoldable pub parameters : ℕ → Reader (Option (List (List ℕ)))
 parameters n = do
   line ← said_line
   if bytes_eq (content line.bytes) (codes "1") then (do found ← parameter_names n; pure (Some found))
-    else (do check (bytes_eq (content line.bytes) (codes "0")) (BadScop line.number); pure None)
+      else (do check (bytes_eq (content line.bytes) (codes "0")) (BadScop line.number); pure None)
 
 -- an array's identifier, at least 1, and its name
 abbrev pub array_of : Line → List Word → Result (ℤ × List ℕ) Refusal
@@ -428,7 +434,7 @@ globals_from zero found = do
   literal close_word
   pure found
 globals_from (suc n) found = λ rest.
-  if bytes_eq (content (next_said rest)) close_word then (literal close_word >> pure found) rest
+    if bytes_eq (content (next_said rest)) close_word then (literal close_word >> pure found) rest
     else (extension arrays_name arrays found >>= globals_from n) rest
 
 unfoldable pub globals : Reader (Extensions (List (ℤ × List ℕ)))
@@ -450,14 +456,20 @@ no_second rest = elim (from_open rest.number rest.lines).lines [ [] ↦ None | l
 unfoldable pub no_more : Reader (Unit {0})
 no_more = λ rest. unless (no_second rest) rest
 
+-- a line of one word
+unfoldable pub one_word : Reader (List ℕ)
+one_word = do
+  found ← word_line 1
+  pure (first_of found)
+
 unfoldable pub scop : Reader ScopPieces
 scop = do
   opening
-  language ← word_line 1
+  language ← one_word
   context ← context
   names ← parameters context.shape.parameters
   count ← statement_count
   statements ← statements_from context.shape.parameters 1 count []
   globals ← globals
   no_more
-  pure (record { language = first_of language; context = context; parameters = names; statements = statements; arrays = globals.special; extensions = globals.others })
+  pure (record { language = language; context = context; parameters = names; statements = statements; arrays = globals.special; extensions = globals.others })
