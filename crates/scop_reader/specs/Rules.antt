@@ -313,6 +313,9 @@ pub record Extensions (A : Type 0) : Type 0 where
   pub special : Option A
   pub others : List Extension
 
+abbrev pub extensions_of : {A : Type 0} → Option A → List Extension → Extensions A
+extensions_of special others = record { special = special; others = others }
+
 abbrev pub is_none : {A : Type 0} → Option A → Bool
 is_none None = true
 is_none (Some a) = false

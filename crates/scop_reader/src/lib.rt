@@ -1,6 +1,7 @@
 //! OpenScop text read: the pieces of a SCoP, or the first refusal of the text.
 #![tactic(auto)]
 
+mod array_rules;
 mod bodies;
 mod cursors;
 mod extension_names;
@@ -13,6 +14,7 @@ mod number_words;
 mod part_rules;
 mod relation_rules;
 mod roles;
+mod statement_rules;
 mod text_lines;
 
 pub use roles::Role;

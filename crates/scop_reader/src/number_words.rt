@@ -45,6 +45,17 @@ pub fn number_from(line: &TextLine<'_>, word: &TextWord<'_>, least: u8) -> Resul
     }
 }
 
+/// A number that is at least `least`, as a coefficient.
+pub fn coeff_from(line: &TextLine<'_>, word: &TextWord<'_>, least: u8) -> Result<Coeff, Fail>
+    ensures { Gives (number_in line.now (at_least least) word.now (number_read word.now.bytes)) result }
+{
+    match read_number(word.bytes()) {
+        NumberRead::Value(n) if least as i128 <= n => Ok(Coeff::bounded(n)),
+        NumberRead::TooLarge => Err(too_large(line, word)),
+        _ => Err(bad_line(line.number())),
+    }
+}
+
 /// The first number of a row: 0 or 1.
 pub fn kind_number(line: &TextLine<'_>, word: &TextWord<'_>) -> Result<i128, Fail>
     ensures { Gives (number_in line.now is_kind word.now (number_read word.now.bytes)) result }

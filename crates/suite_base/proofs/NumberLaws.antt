@@ -1,12 +1,12 @@
-use Rattle.std.proofs.Common.{◌≡◌, ◌⊎◌, inl, inr, ℕ, zero, suc, ◌+◌, ◌-◌, ◌*◌, ◌/◌, ◌%◌, ◌^◌, ◌≤◌, ◌<◌, Bool, true, false, ◌&&◌, ◌==◌, not, List, [], ◌∷◌, ◌++◌, ℤ, pos, negsuc, neg_ℤ, unsigned_abs, nat_lt, nat_le, refl, sym, ap, ◌∙◌, arith}
+use Rattle.std.proofs.Common.{◌≡◌, inl, inr, ℕ, suc, ◌+◌, ◌-◌, ◌*◌, ◌/◌, ◌%◌, ◌^◌, ◌≤◌, ◌<◌, true, false, ◌==◌, List, [], ◌∷◌, ◌++◌, ℤ, pos, negsuc, unsigned_abs, nat_le, refl, ap, ◌∙◌, arith}
 use Rattle.std.proofs.lemmas.Bool.{lt-ltb, le-leb, leb-true, eqb-true, and_parts}
 use Rattle.std.proofs.lemmas.Fmt.{decimal_by_steps_wide}
 use Rattle.std.proofs.lemmas.Int.{ints}
 use Rattle.std.specs.Fmt.{decimal, signed_decimal}
 use Rattle.suite_base.specs.declared.numbers.NumberRead.TheVariants.{Value}
 use Rattle.suite_base.specs.Lines.{is_blank}
-use Rattle.suite_base.specs.Numbers.{is_digit, all_digits, are_digits, is_number_word, digits_after, with_sign, number_value, is_coefficient, number_read}
-use Rattle.suite_base.specs.Words.{begins_word, unbroken, is_word}
+use Rattle.suite_base.specs.Numbers.{is_digit, all_digits, are_digits, is_number_word, digits_after, with_sign, number_value, number_read}
+use Rattle.suite_base.specs.Words.{unbroken, is_word}
 use Rattle.suite_base.proofs.LineCuts.{bool_tells}
 
 -- ---- digits with one more at the end

@@ -35,6 +35,8 @@ impl HeldFiles {
         ensures opened { self.new.is_open ≡ result }
         ensures found { IsTrue result → bytes_under name.now self.old.files ≡ Some (drop self.new.at (bytes_at self.new.files self.new.file)) }
         ensures missing { result ≡ false → bytes_under name.now self.old.files ≡ None }
+        ensures file { result ≡ false → self.new.file ≡ self.old.file }
+        ensures at { result ≡ false → self.new.at ≡ self.old.at }
         ensures held { self.new.files ≡ self.old.files }
     {
         match find_file(self.files.as_slice(), name) {
@@ -70,6 +72,8 @@ impl HeldFiles {
     /// Closes the open file.
     pub fn close(&mut self)
         ensures closed { self.new.is_open ≡ false }
+        ensures file { self.new.file ≡ self.old.file }
+        ensures at { self.new.at ≡ self.old.at }
         ensures held { self.new.files ≡ self.old.files }
         ensures same { self.old.is_open ≡ false → self.new ≡ self.old }
     {

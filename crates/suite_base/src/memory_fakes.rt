@@ -26,6 +26,8 @@ impl MemSource {
     pub fn new(bytes: Text, fails: List<u64>) -> MemSource
         ensures told { ⟦<MemSource as Source>⟧.left result ≡ Some bytes }
         ensures fresh { ⟦<MemSource as Source>⟧.faults result ≡ 0 }
+        ensures calls { result.calls ≡ 0 }
+        ensures fails { result.fails ≡ fails }
     {
         MemSource {
             bytes,
@@ -71,6 +73,8 @@ impl MemSink {
     pub fn new(alloc: Global, fails: List<u64>) -> MemSink
         ensures told { ⟦<MemSink as Sink>⟧.written result ≡ Some [] }
         ensures fresh { ⟦<MemSink as Sink>⟧.faults result ≡ 0 }
+        ensures calls { result.calls ≡ 0 }
+        ensures fails { result.fails ≡ fails }
     {
         MemSink {
             bytes: Text::new(alloc),
@@ -121,6 +125,8 @@ impl MemFiles {
         ensures held { ⟦<MemFiles as Files>⟧.held result ≡ Some files }
         ensures closed { ⟦<MemFiles as Files>⟧.is_open result ≡ false }
         ensures fresh { ⟦<MemFiles as Files>⟧.faults result ≡ 0 }
+        ensures calls { result.calls ≡ 0 }
+        ensures fails { result.fails ≡ fails }
     {
         MemFiles {
             held: HeldFiles::new(files),
@@ -133,6 +139,7 @@ impl MemFiles {
     /// Counts one more call, and says whether it fails.
     fn fails_now(&mut self) -> bool
         ensures held { self.new.held ≡ self.old.held }
+        ensures fails { self.new.fails ≡ self.old.fails }
         ensures grows { self.old.faults ≤ self.new.faults }
         ensures cause { IsTrue result → HasFault self.old.faults self.new.faults }
     {

@@ -57,11 +57,12 @@ pub trait Files {
     ghost faults: { Self → ℕ };
 
     /// Opens the file `name` at its first byte, and gives up a file that was open. `Failed` comes by a
-    /// counted fault, or where no file of this name is held; no file is open then.
+    /// counted fault, or where no file of this name is held; no file is open then, and none was read.
     fn open(&mut self, name: &str) -> Result<(), Failed>
         ensures ok { OnOk result (Opened (held self.old) name.now (left self.new)) }
         ensures opened { OnOk result (is_open self.new ≡ true) }
         ensures err { OnErr result (is_open self.new ≡ false) }
+        ensures unread { OnErr result (left self.new ≡ left self.old) }
         ensures held { held self.new ≡ held self.old }
         ensures grows { faults self.old ≤ faults self.new }
         ensures cause { OnErr result (HasFault (faults self.old) (faults self.new) ⊎ IsMissing (held self.old) name.now) };
@@ -78,9 +79,10 @@ pub trait Files {
         ensures grows { faults self.old ≤ faults self.new }
         ensures cause { OnErr result (HasFault (faults self.old) (faults self.new)) };
 
-    /// Closes the open file. With no file open it does nothing.
+    /// Closes the open file, of which nothing more is read. With no file open it does nothing.
     fn close(&mut self)
         ensures closed { is_open self.new ≡ false }
+        ensures unread { left self.new ≡ left self.old }
         ensures held { held self.new ≡ held self.old }
         ensures same { is_open self.old ≡ false → self.new ≡ self.old }
         ensures grows { faults self.old ≤ faults self.new };

@@ -3,4 +3,5 @@ pub mod FirstForms
 pub mod WordLists
 pub mod ShortNumbers
 pub mod RunAnswers
+pub mod Printables
 pub mod Assembled

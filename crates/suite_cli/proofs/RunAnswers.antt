@@ -9,17 +9,22 @@ use Rattle.clan_extract.proofs.OneLoops.{one_loop_means, one_loop_names}
 use Rattle.suite_cli.specs.declared.outcomes.Outcome.{Outcome}
 use Rattle.suite_cli.specs.declared.outcomes.Outcome.TheVariants.{Done, Refused, Usage, ReadFault, WriteFault, Memory}
 use Rattle.suite_cli.specs.Answers.{Answers, Completes, Faults, Faulty, IsComplete, ReadWhole, RefusalCause, Reported, Told, Translates, WritesPart, WritesScop, scop_of}
-use Rattle.suite_cli.specs.FirstForm.{IsFirstForm, IsHead, IsAssignment, IsRefusal, LoopWords, content_lines, frame_of, loop_of}
+use Rattle.suite_cli.specs.FirstForm.{AreWords, IsFirstForm, IsHead, IsAssignment, IsRefusal, LoopWords, content_lines, frame_of, loop_of}
 use Rattle.suite_cli.specs.Messages.{message}
-use Rattle.suite_cli.specs.Names.{is_short_number}
 
--- the start of a loop that was read is a short number
-start_in : (o : Option (List ℕ × List ℕ)) (l : LoopWords) → IsSomeAnd o (λ frame. IsHead frame.0 l.iterator l.start l.parameter × IsAssignment frame.1 l.array l.iterator l.value) → is_short_number l.start ≡ true
-start_in None l h = absurd h
-start_in (Some frame) l h = h.0.start_is_short
+-- the words of a loop that was read are words that a loop can have
+words_in : (o : Option (List ℕ × List ℕ)) (l : LoopWords) → IsSomeAnd o (λ frame. IsHead frame.0 l.iterator l.start l.parameter × IsAssignment frame.1 l.array l.iterator l.value) → AreWords l
+words_in None l h = absurd h
+words_in (Some frame) l h = record {
+  iterator = h.0.iterator_is_free;
+  start = h.0.start_is_short;
+  parameter = h.0.parameter_is_free;
+  array = h.1.array_is_free;
+  value = h.1.value_is_short;
+}
 
-pub start_is_short : (bytes : List ℕ) (l : LoopWords) → IsFirstForm bytes l → is_short_number l.start ≡ true
-start_is_short bytes l f = start_in (frame_of (content_lines bytes)) l f.framed
+pub are_words : (bytes : List ℕ) (l : LoopWords) → IsFirstForm bytes l → AreWords l
+are_words bytes l f = words_in (frame_of (content_lines bytes)) l f.framed
 
 -- the output of a translated text was written
 pub all_written : (input output : Told) (text bytes out written : List ℕ) → ReadWhole input text → bytes ≡ text → Translates bytes out → written ≡ out

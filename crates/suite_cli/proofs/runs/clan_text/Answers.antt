@@ -1,11 +1,11 @@
 use Rattle.std.proofs.Common.{◌≡◌, ◌∙◌, ap}
 use Rattle.scop_core.specs.Layouts.{layout}
 use Rattle.suite_cli.specs.FirstForm.{words_of}
-use Rattle.suite_cli.proofs.RunAnswers.{start_is_short}
+use Rattle.suite_cli.proofs.RunAnswers.{are_words}
 use Rattle.suite_cli.proofs.runs.clan_text.Goals as goal
 
 pub translation-requires : goal.translation-requires
-translation-requires c = start_is_short _ (words_of c.in-Ok.text) c.in-Ok.ensures.ok
+translation-requires c = are_words _ (words_of c.in-Ok.text) c.in-Ok.ensures.ok
 
 pub returns-clause-ok : goal.returns-clause-ok
 returns-clause-ok c =
