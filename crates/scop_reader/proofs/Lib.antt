@@ -18,4 +18,6 @@ pub mod Turns
 pub mod LastBytes
 pub mod NameLines
 pub mod KeptLines
+pub mod GrammarPrinted
+pub mod GrammarLayout
 mod Checks
