@@ -67,7 +67,7 @@ pub printed_lines : (saids : List Said) → AllByRecursion IsGood saids → line
 printed_lines [] h = refl
 printed_lines (said ∷ saids) h =
     ap lines (append_assoc (printed said) (10 ∷ []) (printed_text saids)) ∙ (line_end (printed said) (printed_text saids) h.0.one_line
-        ∙ ap (λ (ls : List (List ℕ)). printed said ∷ ls) (printed_lines saids h.1))
+    ∙ ap (λ (ls : List (List ℕ)). printed said ∷ ls) (printed_lines saids h.1))
 
 -- each line says what it is to say
 printed_behind : (said : Said) (n : ℕ) (ls : List (List ℕ)) → IsGood said → behind said (record { number = n; lines = printed said ∷ ls }) ≡ Some (record { number = n + 1; lines = ls })
@@ -193,7 +193,7 @@ names_words (w ∷ ws) h =
 pub joined_words : (ws : List (List ℕ)) → are_names ws ≡ true → word_bytes (words_of (joined ws)) ≡ ws
 joined_words ws h =
     content_words (joined ws) ∙ (words-trim (without_comment (joined ws)) ∙ (ap words (no_comment (joined ws) (and_parts (has_no 10 (joined ws)) (has_no 35 (joined ws)) (joined_plain ws h)).1)
-        ∙ (ap words (joined_spaced ws) ∙ words-spaced ws (names_words ws h))))
+    ∙ (ap words (joined_spaced ws) ∙ words-spaced ws (names_words ws h))))
 
 -- a line with a word is not silent
 words_speak : (line : List ℕ) (w : List ℕ) (ws : List (List ℕ)) → word_bytes (words_of line) ≡ w ∷ ws → not (is_silent line) ≡ true

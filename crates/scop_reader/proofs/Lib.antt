@@ -19,5 +19,6 @@ pub mod LastBytes
 pub mod NameLines
 pub mod KeptLines
 pub mod GrammarPrinted
+pub mod GrammarSpelled
 pub mod GrammarLayout
 mod Checks
