@@ -1,25 +1,24 @@
 -- What is printed for a line says what the line is to say.
-use Rattle.std.proofs.Common.{◌≡◌, refl, sym, ap, subst, ◌∙◌, Option, Some, None, ℕ, ℤ, pos, negsuc, unsigned_abs, ◌+◌, ◌^◌, ◌≤◌, ◌<◌, zero, suc, List, [], ◌∷◌, ◌++◌, length, map, reverse, Bool, true, false, not, ◌&&◌, ◌==◌, ◌⊎◌, inl, inr, arith, append_assoc}
-use Rattle.std.specs.Prelude.{codes, nat_le, ◌||◌, if◌then◌else◌, All}
+use Rattle.std.proofs.Common.{◌≡◌, refl, sym, ap, ◌∙◌, Some, ℕ, ℤ, unsigned_abs, ◌+◌, ◌^◌, ◌≤◌, ◌<◌, List, [], ◌∷◌, ◌++◌, map, reverse, Bool, true, false, not, ◌==◌, inl, inr, arith, append_assoc}
+use Rattle.std.specs.Prelude.{nat_le, ◌||◌}
 use Rattle.std.specs.List.{flat_map, AllByRecursion}
-use Rattle.std.specs.Fmt.{decimal, signed_decimal, digits}
+use Rattle.std.specs.Fmt.{signed_decimal}
 use Rattle.std.specs.Str.{bytes_eq}
 use Rattle.std.proofs.lemmas.Bool.{and_parts, and_from, or_left, leb-true, lt-leb, eqb-true, false_from_ne_true}
 use Rattle.std.proofs.lemmas.Bool.Decides.{leb_tells}
 use Rattle.std.proofs.lemmas.List.{append-nil, reverse-append, reverse-reverse}
 use Rattle.std.proofs.lemmas.Slice.Eq.{bytes_eq-Decides}
-use Rattle.suite_base.specs.declared.numbers.NumberRead.TheVariants.{Value}
-use Rattle.suite_base.specs.Lines.{lines, put, trim, trim_front, is_blank}
-use Rattle.suite_base.specs.Words.{content, words, begins_word, unbroken, is_word, are_words, spaced, without_comment}
+use Rattle.suite_base.specs.Lines.{lines, trim, trim_front, is_blank}
+use Rattle.suite_base.specs.Words.{content, words, begins_word, is_word, are_words, spaced, without_comment}
 use Rattle.suite_base.specs.Numbers.{number_read, is_digit, all_digits, are_digits, is_number_word}
 use Rattle.suite_base.proofs.LineCuts.{bool_tells}
 use Rattle.suite_base.proofs.WordCuts.{words-spaced}
 use Rattle.suite_base.proofs.NumberLaws.{signed_decimal_word, signed_decimal_reads, number_is_word}
 use Rattle.scop_core.specs.Printable.{has_no, is_plain, is_name, are_names, is_letter, are_letters_or_digits, is_extension_name, end_line}
-use Rattle.scop_reader.specs.Lines.{Rest, Word, is_empty, is_silent, behind_silent, words_of, word_bytes}
+use Rattle.scop_reader.specs.Lines.{Rest, is_empty, is_silent, words_of, word_bytes}
 use Rattle.scop_reader.specs.Documents.{Said, Literal, Words, Numbers, Entry, Closing, Raw, End, says, is_raw, are_same, are_numbers, is_value, is_entry, behind, behind_all, open_line}
 use Rattle.scop_reader.proofs.GrammarLines.{other_way, join_one}
-use Rattle.scop_reader.proofs.GrammarWords.{words_same, plain_parts, plain_more, is_its_value}
+use Rattle.scop_reader.proofs.GrammarWords.{words_same, plain_more, is_its_value}
 use Rattle.scop_reader.proofs.GrammarText.{content_words, words-trim}
 
 -- ---- what is printed for a line

@@ -1,6 +1,6 @@
 -- The layout of a SCoP is what is printed for the lines of its document.
-use Rattle.std.proofs.Common.{◌≡◌, refl, sym, ap, ◌∙◌, Option, Some, None, ℕ, ℤ, pos, ◌+◌, List, [], ◌∷◌, ◌++◌, length, map, Bool, true, false, ◌⊎◌, inl, inr, suc, append_assoc, add-one}
-use Rattle.std.specs.Prelude.{codes, nat_le, if◌then◌else◌}
+use Rattle.std.proofs.Common.{◌≡◌, refl, sym, ap, ◌∙◌, Option, Some, None, ℕ, ℤ, ◌+◌, List, [], ◌∷◌, ◌++◌, length, map, false, inl, inr, suc, append_assoc, add-one}
+use Rattle.std.specs.Prelude.{codes, nat_le}
 use Rattle.std.specs.List.{flat_map}
 use Rattle.std.specs.Fmt.{decimal, signed_decimal, digits}
 use Rattle.std.proofs.lemmas.List.{append-nil, length-map}
@@ -11,7 +11,7 @@ use Rattle.relation_core.specs.declared.part_rows.RowKind.{RowKind}
 use Rattle.relation_core.specs.declared.part_rows.RowKind.TheVariants.{Equal, AtLeast}
 use Rattle.relation_core.specs.declared.part_rows.PartRow.{PartRow}
 use Rattle.relation_core.specs.Systems.{System}
-use Rattle.relation_core.specs.Layouts.{spaced as after_space, spaced_count, header_line, kind_digit, row_line, part_layout}
+use Rattle.relation_core.specs.Layouts.{spaced as after_space, header_line, kind_digit, row_line, part_layout}
 use Rattle.scop_core.specs.declared.accesses.AccessKind.{AccessKind}
 use Rattle.scop_core.specs.declared.accesses.Access.{Access}
 use Rattle.scop_core.specs.declared.statements.Body.{Body}
@@ -19,13 +19,13 @@ use Rattle.scop_core.specs.declared.statements.Extension.{Extension}
 use Rattle.scop_core.specs.declared.statements.Statement.{Statement}
 use Rattle.scop_core.specs.declared.raw_pieces.RawStatement.{RawStatement}
 use Rattle.scop_core.specs.declared.raw_pieces.ScopPieces.{ScopPieces}
-use Rattle.scop_core.specs.Layouts.{line, number_line, names_line, parts_line, relation_layout, access_word, access_layout, body_layout, extension_layout, relations_layout, statement_layout, parameters_layout, array_line, arrays_layout, layout}
+use Rattle.scop_core.specs.Layouts.{line, number_line, names_line, parts_line, relation_layout, access_word, access_layout, body_layout, extension_layout, statement_layout, parameters_layout, array_line, arrays_layout, layout}
 use Rattle.scop_core.specs.Printable.{end_line, body_name, arrays_name}
 use Rattle.scop_core.specs.ReadBack.{access_piece, statement_pieces as printed_statement, pieces_of as printed_pieces}
 use Rattle.scop_core.specs.SolvedRows.{schedule_part, access_part}
 use Rattle.scop_core.specs.ScopData.{ScopData}
-use Rattle.scop_reader.specs.Documents.{Said, Literal, Words, Numbers, Entry, Closing, Raw, End, Item, Special, Kept, Parts, StatementText, Document, count, header_numbers, kind_number, said_row, said_part, said_count, said_relation, said_access, said_names, said_body, said_array, said_arrays, open_line, said_kept, said_item, said_statement, said_parameters, said_context, said_document, first_special, kept_items, access_pieces, statement_pieces, pieces_of}
-use Rattle.scop_reader.proofs.GrammarPrinted.{joined, printed, printed_line, printed_text}
+use Rattle.scop_reader.specs.Documents.{Said, Literal, Words, Numbers, Closing, Raw, End, Item, Special, Kept, Parts, StatementText, Document, count, header_numbers, kind_number, said_row, said_part, said_count, said_relation, said_access, said_names, said_body, said_array, said_arrays, open_line, said_kept, said_item, said_statement, said_parameters, said_context, said_document, first_special, kept_items, access_pieces, statement_pieces, pieces_of}
+use Rattle.scop_reader.proofs.GrammarPrinted.{printed_line, printed_text}
 
 -- ---- the document that is printed of pieces
 

@@ -20,5 +20,6 @@ pub mod NameLines
 pub mod KeptLines
 pub mod GrammarPrinted
 pub mod GrammarSpelled
+pub mod GrammarGood
 pub mod GrammarLayout
 mod Checks

@@ -1,5 +1,5 @@
 -- Which SCoP a text stands for, and why a text stands for none.
-use Rattle.std.specs.Prelude.{◌≡◌, ◌<◌, ◌^◌, ℕ, ℤ, unsigned_abs, All, IfSome, Bool, true, false, ◌&&◌, ◌||◌, ◌==◌, List, [], ◌∷◌, length, Option, Some, None, Result, Ok, Err}
+use Rattle.std.specs.Prelude.{◌≡◌, ◌<◌, ◌^◌, ℕ, unsigned_abs, All, IfSome, Bool, true, false, ◌&&◌, ◌||◌, ◌==◌, List, [], ◌∷◌, length, Option, Some, None, Result, Ok, Err}
 use Rattle.suite_base.specs.declared.refusals.Refusal.{Refusal}
 use Rattle.suite_base.specs.Lines.{lines}
 use Rattle.relation_core.specs.declared.part_rows.PartRow.{PartRow}
