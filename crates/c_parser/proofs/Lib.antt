@@ -9,4 +9,7 @@ pub mod StatementYields
 pub mod Comes
 pub mod ValueComes
 pub mod StatementComes
+pub mod Runs
+pub mod ValueRuns
+pub mod StatementRuns
 pub mod RegionLemmas

@@ -26,6 +26,7 @@ pub fn parse_region<'a>(alloc: Global, bytes: &'a [u8], span: Span) -> Result<Re
     ensures reads { spec.Parses bytes.now span result }
     ensures derived { IfOk result (λ found. spec.IsRegion bytes.now span found.nodes) }
     ensures complete { spec.Completes bytes.now span result }
+    ensures cause { spec.HasReason bytes.now span result }
 {
     read(alloc, bytes, span)
 }
