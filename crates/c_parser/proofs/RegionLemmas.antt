@@ -1,5 +1,5 @@
 -- What the rules' answer says of derivations.
-use Rattle.std.proofs.Common.{◌≡◌, ℕ, List, Result, Option, Some, Ok, Err, IfOk, inl, inr, ap, sym, ◌∙◌, subst, arith}
+use Rattle.std.proofs.Common.{◌≡◌, ℕ, List, Result, Some, Ok, Err, IfOk, inl, inr, ap, sym, ◌∙◌, subst, arith}
 use Rattle.suite_base.specs.declared.refusals.Fail.{Fail}
 use Rattle.suite_base.specs.declared.refusals.Fail.TheVariants as fail
 use Rattle.c_lexer.specs.declared.regions.Span.{Span}
@@ -17,9 +17,10 @@ use Rattle.c_parser.specs.Derivations.{Derived}
 use Rattle.c_parser.specs.Regions.{reading_at, IsRegion, Answers, Completes, HasReason, answer_of, Parses}
 use Rattle.c_parser.proofs.Yields.{Yields}
 use Rattle.c_parser.proofs.StatementYields.{region_yields}
-use Rattle.c_parser.proofs.Comes.{Comes, IsDeep}
+use Rattle.c_parser.proofs.Comes.{Comes, IsLimit}
 use Rattle.c_parser.proofs.StatementComes.{region_comes}
-use Rattle.c_parser.specs.Prefixes.{HasCause}
+use Rattle.c_parser.specs.Prefixes.{later, HasCause}
+use Rattle.c_parser.proofs.SymbolFacts.{no_token, large_integer}
 use Rattle.c_parser.proofs.Runs.{Runs, Fails, kind}
 use Rattle.c_parser.proofs.StatementRuns.{region_runs}
 
@@ -31,7 +32,7 @@ answered : (r : Reading) (o : Outcome (List Node)) (nodes : List Node) → Yield
 answered r (Ok y) nodes h e = let P : List Node → Type 0 = λ x. Derived 64 12 x r in subst P (ap (read_nodes nodes) e) h.1
 answered r (Err x) nodes h e = absurd (cc)
 
-never : (refusal : Refusal) → IsDeep ⊥ refusal → ⊥
+never : (refusal : Refusal) → IsLimit ⊥ refusal → ⊥
 never (TooDeep p) h = h
 never _ h = h
 
@@ -61,7 +62,7 @@ read_complete bytes span (Err (fail.Refused refusal)) h nodes x =
 
 -- ---- causes
 
-no_depth : (refusal : Refusal) → 3 ≡ kind refusal → IsDeep (Unit {0}) refusal → ⊥
+no_depth : (refusal : Refusal) → 3 ≡ kind refusal → IsLimit (Unit {0}) refusal → ⊥
 no_depth (TooDeep p) e h = absurd (omega (arith, e))
 no_depth _ e h = h
 
@@ -75,10 +76,10 @@ no_room p nodes m (Ok y) f h = f
 no_room p nodes m (Err Memory) f h = f
 no_room p nodes m (Err (Refused refusal)) f h = never refusal h
 
-caused : (r : Reading) (refusal : Refusal) → Runs r region 0 (Err (Refused refusal)) → HasCause r refusal
+caused : (r : Reading) (refusal : Refusal) → Runs r (λ x. region) 0 (Err (Refused refusal)) → HasCause r refusal
 unfolding Runs
-caused r (BadToken p) (k, ik, sound, c, fails) = (k, sound, ap Some (sym c.0), c.1)
-caused r (NumberTooLarge p) (k, ik, sound, c, fails) = (k, sound, ap Some (sym c.0), c.1)
+caused r (BadToken p) (k, ik, sound, c, fails) = (k, sound, ap Some (sym c.0), no_token (later k r) c.1)
+caused r (NumberTooLarge p) (k, ik, sound, c, fails) = (k, sound, ap Some (sym c.0), large_integer (later k r) c.1)
 caused r (BadSyntax p) (k, ik, sound, c, fails) =
     (k, sound, ap Some (sym c), λ nests loops x nodes d e. no_tree p nodes e.0 (region x) (fails x d) (region_comes (Unit {0}) nests loops (inr tt) (inr tt) nodes x e))
 caused r (TooDeep p) (k, ik, sound, c, fails) =
@@ -90,7 +91,7 @@ refusal_in refusal (Ok y) = refusal
 refusal_in refusal (Err Memory) = refusal
 refusal_in refusal (Err (Refused f)) = f
 
-found_cause : (r : Reading) (refusal : Refusal) (o : Outcome (List Node)) → Runs r region 0 o → answer_of o ≡ Err (Refused refusal) → HasCause r refusal
+found_cause : (r : Reading) (refusal : Refusal) (o : Outcome (List Node)) → Runs r (λ x. region) 0 o → answer_of o ≡ Err (Refused refusal) → HasCause r refusal
 unfolding Runs
 found_cause r refusal (Ok y) h e = absurd (cc)
 found_cause r refusal (Err Memory) h e = absurd h

@@ -1,9 +1,12 @@
 -- The tokens with which a text begins, and what stands among them.
-use Rattle.std.specs.Prelude.{◌≡◌, ◌⊎◌, ◌≤◌, ℕ, zero, suc, ◌+◌, Bool, true, false, List, Option, Some, None}
+use Rattle.std.specs.Prelude.{◌≡◌, ◌⊎◌, ◌≤◌, ℕ, zero, suc, ◌+◌, Bool, true, false, List, Option, Some, None, Ok, Err}
 use Rattle.suite_base.specs.declared.places.Place.{Place}
 use Rattle.suite_base.specs.declared.refusals.Refusal.{Refusal}
 use Rattle.suite_base.specs.declared.refusals.Refusal.TheVariants.{BadToken, NumberTooLarge, BadSyntax, TooDeep}
-use Rattle.c_lexer.specs.Readings.{Reading}
+use Rattle.c_lexer.specs.declared.tokens.TokenKind.TheVariants as kind
+use Rattle.c_lexer.specs.Readings.{Reading, Lexeme, slice, next}
+use Rattle.c_lexer.specs.Readings as lexer
+use Rattle.c_parser.specs.Symbols.{is_too_large}
 use Rattle.c_parser.specs.declared.symbols.Symbol.{Symbol}
 use Rattle.c_parser.specs.declared.symbols.Symbol.TheVariants as s
 use Rattle.c_parser.specs.Input.{here, symbol, piece, after}
@@ -15,11 +18,11 @@ abbrev pub later : ℕ → Reading → Reading
 later zero r = r
 later (suc k) r = after (later k r)
 
--- the next token of two texts is the same, at the same piece
+-- the next token of two texts is the same, wherever it stands
 abbrev pub SameNext : Reading → Reading → Type 0
-SameNext r x = (symbol r ≡ symbol x) × (piece r ≡ piece x) × (bytes_of r (piece r) ≡ bytes_of x (piece x))
+SameNext r x = (symbol r ≡ symbol x) × (bytes_of r (piece r) ≡ bytes_of x (piece x))
 
--- two texts begin with the same tokens, so many of them, at the same pieces
+-- two texts begin with the same tokens, so many of them
 abbrev pub SameTokens : ℕ → Reading → Reading → Type 0
 SameTokens zero r x = Unit {0}
 SameTokens (suc k) r x = SameTokens k r x × SameNext (later k r) (later k x)
@@ -72,10 +75,18 @@ NoneBegins k r nests loops = (x : Reading) (nodes : List Node) → SameTokens (s
 abbrev pub IsDeep : ℕ → Reading → Type 0
 IsDeep k r = ((symbol (later k r) ≡ s.For) × (12 ≤ loops_among k r)) ⊎ (64 ≤ nests_among k r)
 
+-- no token begins behind what separates
+abbrev pub NoToken : Reading → Type 0
+NoToken r = next r ≡ Err (lexer.start r)
+
+-- the next token is an integer outside the range of coefficients
+abbrev pub LargeInteger : Reading → Type 0
+LargeInteger r = (w : Lexeme) × (next r ≡ Ok (Some w)) × (w.kind ≡ kind.Integer) × (is_too_large (slice r.text w.from w.to) ≡ true)
+
 -- why a text is refused at the token behind so many tokens of the grammar
 abbrev pub Causes : Reading → Refusal → ℕ → Type 0
-Causes r (BadToken place) k = symbol (later k r) ≡ s.Bad
-Causes r (NumberTooLarge place) k = symbol (later k r) ≡ s.TooLarge
+Causes r (BadToken place) k = NoToken (later k r)
+Causes r (NumberTooLarge place) k = LargeInteger (later k r)
 Causes r (BadSyntax place) k = (nests loops : ℕ) → NoneBegins k r nests loops
 Causes r (TooDeep place) k = IsDeep k r × NoneBegins k r 64 12
 Causes r _ k = ⊥
