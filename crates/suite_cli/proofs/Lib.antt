@@ -2,5 +2,6 @@ pub mod TextCuts
 pub mod FirstForms
 pub mod WordLists
 pub mod ShortNumbers
-pub mod RunAnswers
 pub mod Assembled
+pub mod ScopTexts
+pub mod RunAnswers
