@@ -2,6 +2,8 @@
 //! with the status of its outcome.
 #![tactic(auto)]
 
+#[cfg(test)]
+mod adapter_tests;
 mod adapters;
 mod commands;
 mod file_words;
@@ -10,6 +12,10 @@ mod messages;
 mod names;
 mod outcomes;
 mod runs;
+#[cfg(test)]
+mod scop_tests;
+#[cfg(test)]
+mod test_runs;
 #[cfg(test)]
 mod tests;
 mod top;
