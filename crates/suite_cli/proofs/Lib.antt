@@ -1,3 +1,4 @@
+mod Checks
 pub mod TextCuts
 pub mod FirstForms
 pub mod WordLists
