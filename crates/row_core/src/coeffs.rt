@@ -6,7 +6,7 @@ ghost use Rattle.std.specs.Int.{int_signum};
 use std::marker::Model;
 
 /// An integer from `-(2^127 - 1)` to `2^127 - 1`. Contracts see the integer.
-#[derive(Clone, Copy, Debug, PartialEq, Eq)]
+#[derive(Clone, Copy, Debug, PartialEq, Eq, Hash)]
 pub struct Coeff {
     value: i128,
 }

@@ -40,7 +40,7 @@ access_pushed d p parts h made new one e own inputs before =
     let own_dp : HasAccessRelation d p one = subst (λ n. HasAccessRelation d n one) here.parameters_are own_d in
     rw e (All-push (HasAccessRelation d p) made one before own_dp)
 
-item_drop : {X : Type 0} (xs : List X) (i : ℕ) (x : X) → i < length xs → x ≡ get_or xs i x → drop i xs ≡ x ∷ drop (i + 1) xs
+pub item_drop : {X : Type 0} (xs : List X) (i : ℕ) (x : X) → i < length xs → x ≡ get_or xs i x → drop i xs ≡ x ∷ drop (i + 1) xs
 item_drop [] i x h e = absurd (omega arith)
 item_drop (y ∷ xs) zero x h e = ap (λ t. t ∷ xs) (sym e)
 item_drop (y ∷ xs) (suc i) x h e = rw add-one (rw add-one at (item_drop xs i x (omega arith) e))
@@ -61,7 +61,7 @@ pub accesses_left : (xs : List (AccessKind × List System)) (i : ℕ) (x : Acces
 accesses_left xs i x h e s =
     let t : (is_one is_access x.1 && are_solved (drop (i + 1) xs)) ≡ true = sym (ap are_solved (item_drop xs i x h e)) ∙ s in (both _ _ t).1
 
-unsolved_first : (k : ℕ) (raw : RawStatement) (raws : List RawStatement) → first_unsolved k (raw ∷ raws) ≡ None → (is_solved raw ≡ true) × (first_unsolved (k + 1) raws ≡ None)
+pub unsolved_first : (k : ℕ) (raw : RawStatement) (raws : List RawStatement) → first_unsolved k (raw ∷ raws) ≡ None → (is_solved raw ≡ true) × (first_unsolved (k + 1) raws ≡ None)
 unsolved_first k raw raws h =
     elim (is_solved raw) as (λ t. is_solved raw ≡ t → (if t then first_unsolved (k + 1) raws else Some (NotSolved k)) ≡ None → (t ≡ true) × (first_unsolved (k + 1) raws ≡ None))
     [ true ↦ λ e g. (refl, g) | false ↦ λ e g. cc ] refl h

@@ -7,6 +7,21 @@ pub mod Stamps
 pub mod RunLaws
 pub mod SolvedForms
 pub mod SolvedShapes
+pub mod SolvedPieces
+pub mod SolvedDots
+pub mod SolvedRowMeanings
+pub mod SolvedMeanings
 pub mod Assemblies
+pub mod Validities
+pub mod Arrays
+pub mod ClashFree
+pub mod KeptLimits
+pub mod ReadBackLists
+pub mod ReadBackParts
+pub mod ReadBackNames
+pub mod ReadBackPieces
+pub mod ReadBackRows
+pub mod ReadBackSolved
+mod SolvedChecks
 mod LayoutChecks
 mod Checks

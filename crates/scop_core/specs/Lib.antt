@@ -1,13 +1,16 @@
 pub mod Assembly
+pub mod KeptLimits
 pub mod Layouts
 pub mod Meaning
 pub mod Memory
 pub mod OneLoops
 pub mod Order
 pub mod Printable
+pub mod ReadBack
 pub mod ScopData
 pub mod Sequences
 pub mod SolvedForm
+pub mod SolvedLaws
 pub mod SolvedRows
 pub mod Theorems
 pub mod Validity

@@ -1,14 +1,25 @@
 -- What is true of every Scop.
-use Rattle.std.specs.Prelude.{ℕ, List, length, All}
+use Rattle.std.specs.Prelude.{◌≡◌, ℕ, List, length, All, None}
 use Rattle.scop_core.specs.declared.statements.Statement.{Statement}
+use Rattle.scop_core.specs.declared.raw_pieces.ScopPieces.{ScopPieces}
 use Rattle.scop_core.specs.SolvedRows.{HasRelation, HasAccessRelation}
 use Rattle.scop_core.specs.ScopData.{ScopData}
+use Rattle.scop_core.specs.Assembly.{refusal_of, scop_of}
+use Rattle.scop_core.specs.Printable.{IsPrintable}
 
 -- the schedule and the accesses of a statement can be printed
 pub record HasRelations (parameters : ℕ) (statement : Statement) : Type 0 where
   pub schedule : HasRelation (length statement.body.iterators) parameters statement.schedule
   pub accesses : All (HasAccessRelation (length statement.body.iterators) parameters) statement.accesses
 
+-- the SCoP of printable pieces that have no refusal
+pub record IsAssembled (scop : ScopData) : Type 0 where
+  pub pieces : ScopPieces
+  pub printable : IsPrintable pieces
+  pub accepted : refusal_of pieces ≡ None
+  pub is_theirs : scop ≡ scop_of pieces
+
 -- a SCoP that every call takes
 pub record IsValid (scop : ScopData) : Type 0 where
   pub statements : All (HasRelations scop.context.shape.parameters) scop.statements
+  pub assembled : IsAssembled scop

@@ -201,27 +201,6 @@ pub fn copied_statements(alloc: Global, items: &[Statement]) -> Result<List<Stat
     Ok(made)
 }
 
-/// A copy of an array's identifier and name.
-fn copied_array(alloc: Global, array: &(Coeff, Text)) -> Result<(Coeff, Text), NoMemory>
-    ensures { IfOk result (λ made. made ≡ array.now) }
-{
-    Ok((array.0, copied_text(alloc, &array.1)?))
-}
-
-/// A copy of a list of arrays.
-pub fn copied_arrays(
-    alloc: Global,
-    items: &[(Coeff, Text)],
-) -> Result<List<(Coeff, Text)>, NoMemory>
-    ensures { IfOk result (λ made. made ≡ items.now) }
-{
-    let mut made = List::new(alloc);
-    for item in items {
-        made.push(copied_array(alloc, item)?)?;
-    }
-    Ok(made)
-}
-
 /// A copy of names, where they are present.
 pub fn copied_names(
     alloc: Global,
@@ -232,19 +211,6 @@ pub fn copied_names(
     match names {
         None => Ok(None),
         Some(names) => Ok(Some(copied_texts(alloc, names.as_slice())?)),
-    }
-}
-
-/// A copy of arrays, where they are present.
-pub fn copied_array_list(
-    alloc: Global,
-    arrays: &Option<List<(Coeff, Text)>>,
-) -> Result<Option<List<(Coeff, Text)>>, NoMemory>
-    ensures { IfOk result (λ made. made ≡ arrays.now) }
-{
-    match arrays {
-        None => Ok(None),
-        Some(arrays) => Ok(Some(copied_arrays(alloc, arrays.as_slice())?)),
     }
 }
 

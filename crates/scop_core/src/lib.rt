@@ -4,6 +4,7 @@
 
 mod accesses;
 mod affines;
+mod array_tables;
 mod assembling;
 mod clashes;
 mod copies;

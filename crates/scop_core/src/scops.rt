@@ -1,16 +1,17 @@
 //! A whole SCoP. Its fields are private: each is made by `assemble`, which checks it.
 
-ghost use Rattle.std.specs.Prelude.{◌≡◌, ◌<◌, length, ◌≤◌, slice_get, None, All, MatchOption, IsSomeAnd, OnSome, OnOk, IfOk, IfErr};
+ghost use Rattle.std.specs.Prelude.{◌≡◌, ◌<◌, length, ◌≤◌, slice_get, None, true, All, MatchOption, IsSomeAnd, OnSome, OnOk, IfOk, IfErr};
 ghost use Rattle.std.specs.Option.{option_copied};
 ghost use Rattle.scop_core.specs.Assembly.{first_unsolved, solved_statements, early_refusal_of, refusal_of, scop_of, HasCause, HasShapes};
+ghost use Rattle.scop_core.specs.Printable.{IsPrintable, arrays_name, is_kept};
 ghost use Rattle.scop_core.specs.ScopData.{arrays_of, extended};
 ghost use Rattle.scop_core.specs.Validity.{HasRelations, IsValid};
 
+use crate::array_tables::{ArrayTable, copied_table, table_of};
 use crate::assembling::{statements_from, unsolved_statement};
 use crate::clashes::statements_clash;
 use crate::copies::{
-    copied_array_list, copied_extensions, copied_names, copied_part, copied_statements,
-    copied_text, extensions_with,
+    copied_extensions, copied_names, copied_part, copied_statements, copied_text, extensions_with,
 };
 use crate::limits::{pieces_limit, statements_limit};
 use crate::raw_pieces::ScopPieces;
@@ -28,7 +29,7 @@ pub struct Scop {
     context: Part,
     parameters: Option<List<Text>>,
     statements: List<Statement>,
-    arrays: Option<List<(Coeff, Text)>>,
+    arrays: Option<ArrayTable>,
     extensions: List<Extension>,
 }
 
@@ -74,12 +75,12 @@ fn solved(alloc: Global, pieces: &ScopPieces) -> Result<List<Statement>, NoMemor
 }
 
 impl Scop {
-    /// The SCoP of these pieces. It needs the relations and the body of each statement to fit its
-    /// iterators and the parameters. It refuses by the first limit that is passed, of the whole and
+    /// The SCoP of these pieces, which need to be such that they can be printed and read back. It
+    /// refuses by the first limit that is passed, of the whole and
     /// then of the first statement; then by the first statement that is not in solved form; then by
     /// the first statement whose beta vector clashes with that of one before it.
     pub fn assemble(alloc: Global, pieces: ScopPieces) -> Result<Scop, Fail>
-        requires { All (HasShapes pieces.context.shape.parameters) pieces.statements }
+        requires printable { IsPrintable pieces }
         ensures none { OnOk result (refusal_of pieces ≡ None) }
         ensures scop { IfOk result (λ scop. scop ≡ scop_of pieces) }
         ensures cause { IfErr result (HasCause (refusal_of pieces)) }
@@ -93,14 +94,17 @@ impl Scop {
             Err(NoMemory) => Err(Fail::Memory),
             Ok(statements) => match statements_clash(statements.as_slice()) {
                 Some(refusal) => Err(Fail::Refused(refusal)),
-                None => Ok(Scop {
-                    language: pieces.language,
-                    context: pieces.context,
-                    parameters: pieces.parameters,
-                    statements,
-                    arrays: pieces.arrays,
-                    extensions: pieces.extensions,
-                }),
+                None => match table_of(alloc, &pieces.arrays) {
+                    Err(NoMemory) => Err(Fail::Memory),
+                    Ok(arrays) => Ok(Scop {
+                        language: pieces.language,
+                        context: pieces.context,
+                        parameters: pieces.parameters,
+                        statements,
+                        arrays,
+                        extensions: pieces.extensions,
+                    }),
+                },
             },
         }
     }
@@ -114,14 +118,15 @@ impl Scop {
             context: copied_part(alloc, &self.context)?,
             parameters: copied_names(alloc, &self.parameters)?,
             statements: copied_statements(alloc, self.statements.as_slice())?,
-            arrays: copied_array_list(alloc, &self.arrays)?,
+            arrays: copied_table(alloc, &self.arrays)?,
             extensions: copied_extensions(alloc, self.extensions.as_slice())?,
         })
     }
 
-    /// The SCoP without its extensions of the same name, and with this one behind the others. On
-    /// want of memory the SCoP comes back unchanged.
+    /// The SCoP without its extensions of the same name, and with this one behind the others. The
+    /// extension needs a name other than `arrays` and lines none of which ends it. On want of memory the SCoP comes back unchanged.
     pub fn with_extension(self, extension: Extension) -> Result<Scop, (Scop, NoMemory)>
+        requires printable { is_kept arrays_name extension ≡ true }
         ensures ok { IfOk result (λ scop. scop ≡ extended self extension) }
         ensures err { IfErr result (λ back. back.0 ≡ self) }
     {
@@ -213,10 +218,7 @@ impl Scop {
     {
         match &self.arrays {
             None => None,
-            Some(arrays) => match arrays.get(k) {
-                None => None,
-                Some(array) => Some((array.0, &array.1)),
-            },
+            Some(arrays) => arrays.get(k),
         }
     }
 

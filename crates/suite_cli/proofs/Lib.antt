@@ -3,6 +3,7 @@ pub mod TextCuts
 pub mod FirstForms
 pub mod WordLists
 pub mod ShortNumbers
+pub mod Printables
 pub mod Assembled
 pub mod ScopTexts
 pub mod RunAnswers

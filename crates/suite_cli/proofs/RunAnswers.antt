@@ -13,20 +13,25 @@ use Rattle.suite_cli.specs.declared.outcomes.Outcome.{Outcome}
 use Rattle.suite_cli.specs.declared.outcomes.Outcome.TheVariants.{Done, Refused, Usage, ReadFault, WriteFault, Memory}
 use Rattle.suite_cli.specs.Answers.{Answers, CommandAnswers, Completes, IsComplete, IsLoopText, IsRefused, IsTooLong, NamedIn, ReadWhole, RefusalCause, Refuses, Reported, Takes, Told, Translates, World, Writes, WritesPart, opening_of, reading_of, scop_of, writing_of}
 use Rattle.suite_cli.specs.Commands.{Command, Clan, Scop, Words, file_of, is_input}
-use Rattle.suite_cli.specs.FirstForm.{IsFirstForm, IsHead, IsAssignment, IsRefusal, LoopWords, content_lines, frame_of, loop_of}
+use Rattle.suite_cli.specs.FirstForm.{AreWords, IsFirstForm, IsHead, IsAssignment, IsRefusal, LoopWords, content_lines, frame_of, loop_of}
 use Rattle.suite_cli.specs.Messages.{message}
-use Rattle.suite_cli.specs.Names.{is_short_number}
 use Rattle.suite_cli.specs.Reads.{FaultCause, Faults, Faulty, Holds, IsReadFaulty, Named, Tells}
 use Rattle.suite_cli.proofs.ScopTexts.{text_has_no_fault}
 use Rattle.suite_cli.proofs.WordLists.{one_command}
 
--- the start of a loop that was read is a short number
-start_in : (o : Option (List ℕ × List ℕ)) (l : LoopWords) → IsSomeAnd o (λ frame. IsHead frame.0 l.iterator l.start l.parameter × IsAssignment frame.1 l.array l.iterator l.value) → is_short_number l.start ≡ true
-start_in None l h = absurd h
-start_in (Some frame) l h = h.0.start_is_short
+-- the words of a loop that was read are words that a loop can have
+words_in : (o : Option (List ℕ × List ℕ)) (l : LoopWords) → IsSomeAnd o (λ frame. IsHead frame.0 l.iterator l.start l.parameter × IsAssignment frame.1 l.array l.iterator l.value) → AreWords l
+words_in None l h = absurd h
+words_in (Some frame) l h = record {
+  iterator = h.0.iterator_is_free;
+  start = h.0.start_is_short;
+  parameter = h.0.parameter_is_free;
+  array = h.1.array_is_free;
+  value = h.1.value_is_short;
+}
 
-pub start_is_short : (bytes : List ℕ) (l : LoopWords) → IsFirstForm bytes l → is_short_number l.start ≡ true
-start_is_short bytes l f = start_in (frame_of (content_lines bytes)) l f.framed
+pub are_words : (bytes : List ℕ) (l : LoopWords) → IsFirstForm bytes l → AreWords l
+are_words bytes l f = words_in (frame_of (content_lines bytes)) l f.framed
 
 -- the layout of its SCoP translates a loop
 pub translates : (text output : List ℕ) (scop : ScopData) (l : LoopWords) → IsLoopText text l → output ≡ layout scop → scop ≡ scop_of l → Translates text output

@@ -26,14 +26,14 @@ digits_within (d ∷ ds) (suc k) b n l a h =
     let rest : length ds ≤ k = omega arith in
     digits_within ds k (b * 10 + 9) (n * 10 + (d - 48)) rest (and_second (is_digit d) (all_digits ds) a) next
 
-all_of : (ds : List ℕ) → are_digits ds ≡ true → all_digits ds ≡ true
+pub all_of : (ds : List ℕ) → are_digits ds ≡ true → all_digits ds ≡ true
 all_of [] h = absurd (cc)
 all_of (d ∷ ds) h = h
 
 short_length : (ds : List ℕ) → is_short_number ds ≡ true → length ds ≤ 9
 short_length ds h = let e : nat_lt (length ds) 10 ≡ true = and_second _ _ h in grind (arith, nat_tests)
 
-short_digits : (ds : List ℕ) → is_short_number ds ≡ true → are_digits ds ≡ true
+pub short_digits : (ds : List ℕ) → is_short_number ds ≡ true → are_digits ds ≡ true
 short_digits ds h = and_first _ _ (and_first _ _ h)
 
 -- a short number is below 10 ^ 9

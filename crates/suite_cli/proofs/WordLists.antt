@@ -1,6 +1,6 @@
 use Rattle.std.proofs.Common.{◌≡◌, ℕ, List, [], ◌∷◌, length, slice_get, Some, ap, ◌≢◌, arith, false, true, nat_eq, ◌∙◌, sym}
 use Rattle.std.specs.Prelude.{codes}
-use Rattle.suite_cli.specs.Commands.{AreWords, Command, Clan, Scop, IsNoCommand, Words, is_file_word}
+use Rattle.suite_cli.specs.Commands.{IsCommandOn, Command, Clan, Scop, IsNoCommand, Words, is_file_word}
 
 first_is : (xs ys : List (List ℕ)) (a b : List ℕ) → a ∷ xs ≡ b ∷ ys → a ≡ b
 first_is xs ys a b e = cc
@@ -23,7 +23,7 @@ pub other_number : (words : List (List ℕ)) → length words ≢ 2 → IsNoComm
 other_number words h (Clan file) w = h (ap length w.words_are)
 other_number words h (Scop file) w = h (ap length w.words_are)
 
-no_file : (words : List (List ℕ)) (a b c f : List ℕ) → words ≡ a ∷ (f ∷ []) → is_file_word f ≡ false → ¬ AreWords words b c
+no_file : (words : List (List ℕ)) (a b c f : List ℕ) → words ≡ a ∷ (f ∷ []) → is_file_word f ≡ false → ¬ IsCommandOn words b c
 no_file words a b c f e h w =
     let same : f ≡ c = second_is a f b c (sym e ∙ w.words_are) in
     let no_word : is_file_word c ≡ false = sym (ap is_file_word same) ∙ h in

@@ -31,15 +31,15 @@ is_file_name (b ∷ word) = not (b == 45)
 abbrev pub is_file_word : List ℕ → Bool
 is_file_word word = is_input word || is_file_name word
 
--- a name, and a word that names a file
-pub record AreWords (words : List (List ℕ)) (name file : List ℕ) : Type 0 where
+-- the name of a command, and a word that names a file
+pub record IsCommandOn (words : List (List ℕ)) (name file : List ℕ) : Type 0 where
   pub words_are : words ≡ name ∷ (file ∷ [])
   pub named : is_file_word file ≡ true
 
 -- the words of a command
 abbrev pub Words : List (List ℕ) → Command → Type 0
-Words words (Clan file) = AreWords words (codes "clan") file
-Words words (Scop file) = AreWords words (codes "scop") file
+Words words (Clan file) = IsCommandOn words (codes "clan") file
+Words words (Scop file) = IsCommandOn words (codes "scop") file
 
 -- the words of none
 abbrev pub IsNoCommand : List (List ℕ) → Type 0

@@ -61,6 +61,14 @@ pub record IsFirstForm (bytes : List ℕ) (l : LoopWords) : Type 0 where
   pub framed : IsSomeAnd (frame_of (content_lines bytes)) (λ frame. IsHead frame.0 l.iterator l.start l.parameter × IsAssignment frame.1 l.array l.iterator l.value)
   pub names_differ : (l.iterator ≢ l.parameter) × (l.iterator ≢ l.array) × (l.parameter ≢ l.array)
 
+-- words that a loop can have
+pub record AreWords (l : LoopWords) : Type 0 where
+  pub iterator : is_free_name l.iterator ≡ true
+  pub start : is_short_number l.start ≡ true
+  pub parameter : is_free_name l.parameter ≡ true
+  pub array : is_free_name l.array ≡ true
+  pub value : is_short_number l.value ≡ true
+
 -- some line opens a region
 abbrev pub has_scop_line : List ℕ → Bool
 has_scop_line bytes = list_any is_scop_line (lines bytes)

@@ -19,7 +19,7 @@ use suite_base::{Fail, List, NoMemory, NumberRead, Text, read_number};
 /// The SCoP of the loop: one statement, whose domain goes from the start up to the parameter, and
 /// which writes the array at the iterator.
 pub fn translation(alloc: Global, text: &LoopText<'_>) -> Result<Scop, NoMemory>
-    requires { is_short_number text.now.start.now ≡ true }
+    requires { spec.AreWords (spec.words_of text.now) }
     ensures { IfOk result (λ scop. scop ≡ one_loop_scop (spec.loop_of (spec.words_of text.now))) }
 {
     let pieces = loop_pieces(alloc, text)?;

@@ -1,9 +1,9 @@
 use Rattle.suite_cli.specs.FirstForm.{words_of}
-use Rattle.suite_cli.proofs.RunAnswers.{start_is_short, translates}
+use Rattle.suite_cli.proofs.RunAnswers.{are_words, translates}
 use Rattle.suite_cli.proofs.runs.translated.Goals as goal
 
 pub translation-requires : goal.translation-requires
-translation-requires c = start_is_short _ (words_of c.in-Ok.text) c.in-Ok.ensures.ok
+translation-requires c = are_words _ (words_of c.in-Ok.text) c.in-Ok.ensures.ok
 
 pub returns-clause-ok : goal.returns-clause-ok
 returns-clause-ok c =

@@ -1,0 +1,62 @@
+-- The laws of the solved form: what is printed reads back, and means what its rows mean.
+use Rattle.std.specs.Prelude.{◌≡◌, ◌↔◌, ℕ, ℤ, true, None, List, ◌∷◌, length, All}
+use Rattle.relation_core.specs.Points.{LiesIn}
+use Rattle.relation_core.specs.Systems.{System, IsWellFormed}
+use Rattle.scop_core.specs.declared.schedules.Schedule.{Schedule}
+use Rattle.scop_core.specs.declared.accesses.AccessKind.{AccessKind}
+use Rattle.scop_core.specs.declared.accesses.Access.{Access}
+use Rattle.scop_core.specs.declared.raw_pieces.ScopPieces.{ScopPieces}
+use Rattle.scop_core.specs.ScopData.{ScopData}
+use Rattle.scop_core.specs.SolvedForm.{is_scattering, schedule_of, is_access, access_of}
+use Rattle.scop_core.specs.SolvedRows.{schedule_part, access_part}
+use Rattle.scop_core.specs.Assembly.{refusal_of, scop_of}
+use Rattle.scop_core.specs.Printable.{IsPrintable}
+use Rattle.scop_core.specs.Memory.{Cell}
+use Rattle.scop_core.specs.Meaning.{stamp_of, use_at}
+use Rattle.scop_core.specs.Validity.{IsValid}
+use Rattle.scop_core.specs.ReadBack.{IsSolvedSchedule, IsSolvedAccess, IsSolvedStatement, ReadBack}
+
+-- the rows of a schedule are a scattering in solved form, and that schedule
+abbrev pub ScheduleReadsBack : Type 0
+ScheduleReadsBack = (iterators parameters : ℕ) (schedule : Schedule) → IsSolvedSchedule iterators parameters schedule
+    → (is_scattering (schedule_part iterators parameters schedule) ≡ true) × (schedule_of (schedule_part iterators parameters schedule) ≡ schedule)
+
+-- the rows of an access are an access relation in solved form, and that access
+abbrev pub AccessReadsBack : Type 0
+AccessReadsBack = (iterators parameters : ℕ) (access : Access) → IsSolvedAccess iterators parameters access
+    → (is_access (access_part iterators parameters access) ≡ true) × (access_of access.kind (access_part iterators parameters access) ≡ access)
+
+-- the schedule of a scattering in solved form can be printed, and is in solved form
+abbrev pub ScatteringIsSolved : Type 0
+ScatteringIsSolved = (part : System) → IsWellFormed part.shape part.rows → is_scattering part ≡ true
+    → IsSolvedSchedule part.shape.inputs part.shape.parameters (schedule_of part)
+
+-- the access of an access relation in solved form can be printed, and is in solved form
+abbrev pub AccessIsSolved : Type 0
+AccessIsSolved = (kind : AccessKind) (part : System) → IsWellFormed part.shape part.rows → is_access part ≡ true
+    → IsSolvedAccess part.shape.inputs part.shape.parameters (access_of kind part)
+
+-- the statements of a SCoP that pieces give without a refusal are in solved form
+abbrev pub StatementsAreSolved : Type 0
+StatementsAreSolved = (pieces : ScopPieces) (scop : ScopData) → refusal_of pieces ≡ None → scop ≡ scop_of pieces → IsValid scop
+    → All (IsSolvedStatement scop.context.shape.parameters) scop.statements
+
+-- a SCoP that printable pieces give without a refusal is what its own pieces give, and these can be printed
+abbrev pub PiecesReadBack : Type 0
+PiecesReadBack = (pieces : ScopPieces) (scop : ScopData) → IsPrintable pieces → refusal_of pieces ≡ None → scop ≡ scop_of pieces → IsValid scop → ReadBack scop
+
+-- the outputs that the rows of a scattering allow are the stamp of its schedule, with floors as greatest integers
+abbrev pub SolvedScheduleMeansItsRelation : Type 0
+SolvedScheduleMeansItsRelation = (part : System) → IsWellFormed part.shape part.rows → is_scattering part ≡ true → (y x n : List ℤ)
+    → length y ≡ part.shape.outputs → length x ≡ part.shape.inputs → length n ≡ part.shape.parameters
+    → LiesIn part y x n ↔ (y ≡ stamp_of (schedule_of part) x n)
+
+-- a cell as a list: the identifier of its array, then its subscripts
+abbrev pub cell_list : Cell → List ℤ
+cell_list cell = cell.array ∷ cell.subscripts
+
+-- the outputs that the rows of an access relation allow are the cell that its access uses
+abbrev pub SolvedAccessMeansItsRelation : Type 0
+SolvedAccessMeansItsRelation = (kind : AccessKind) (part : System) → IsWellFormed part.shape part.rows → is_access part ≡ true → (y x n : List ℤ)
+    → length y ≡ part.shape.outputs → length x ≡ part.shape.inputs → length n ≡ part.shape.parameters
+    → LiesIn part y x n ↔ (y ≡ cell_list (use_at x n (access_of kind part)).cell)
