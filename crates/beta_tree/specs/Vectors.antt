@@ -1,9 +1,9 @@
 -- A list of beta vectors is a tree of loops: each vector is a leaf, and each of its proper beginnings that is not empty is a
 -- loop round it. The statements keep their order in the list, whatever their places in the tree.
+pub use Rattle.row_core.specs.Dense.{heads, rests, lesser, dense_among, dense_of}
 use Rattle.std.specs.Prelude.{◌≡◌, ◌≢◌, ℕ, ℤ, ◌<◌, ◌^◌, ◌==◌, Bool, true, false, if◌then◌else◌, not, ◌&&◌, ◌⊎◌, Option, Some, None, List, [], ◌∷◌, ◌++◌, length, map, filter, int_lt}
 use Rattle.std.specs.List.{filter_map, list_any}
 use Rattle.std.specs.Set.{distinct_count}
-use Rattle.std.specs.Ordering.{int_eq}
 use Rattle.std.proofs.Math.Dec.{eqb}
 
 -- what follows P in v, where v begins with P
@@ -15,12 +15,6 @@ after (p ∷ P) (x ∷ v) = if x == p then after P v else None
 -- the statements under P: what follows P, in each vector that begins with P
 abbrev pub under : List ℕ → List (List ℕ) → List (List ℕ)
 under P V = filter_map (after P) V
-
--- the first entries of the vectors that have one
-abbrev pub heads : {A : Type 0} → List (List A) → List A
-heads [] = []
-heads ([] ∷ V) = heads V
-heads ((x ∷ v) ∷ V) = x ∷ heads V
 
 -- how many children P has: the distinct next entries of the vectors under P
 abbrev pub children_of : List ℕ → List (List ℕ) → ℕ
@@ -79,26 +73,6 @@ pub record IsTree (V : List (List ℕ)) : Type 0 where
   pub filled : NoneEmpty V
   pub free : PrefixFree V
   pub dense : IsDense V
-
--- what follows the first entry, in each vector whose first entry is x
-abbrev pub rests : ℤ → List (List ℤ) → List (List ℤ)
-rests x [] = []
-rests x ([] ∷ V) = rests x V
-rests x ((y ∷ v) ∷ V) = if int_eq y x then v ∷ rests x V else rests x V
-
--- how many distinct values of xs are below x
-abbrev pub lesser : ℤ → List ℤ → ℕ
-lesser x xs = distinct_count int_eq (filter (λ y. int_lt y x) xs)
-
--- v numbered densely among V: each entry becomes the number of distinct lesser values at its place, among the vectors that agree
--- with v before it
-abbrev pub dense_among : List (List ℤ) → List ℤ → List ℕ
-dense_among V [] = []
-dense_among V (x ∷ v) = lesser x (heads V) ∷ dense_among (rests x V) v
-
--- the dense numbering of V
-abbrev pub dense_of : List (List ℤ) → List (List ℕ)
-dense_of V = map (dense_among V) V
 
 -- each entry fits 32 bits
 abbrev pub Fit : List ℕ → Type 0

@@ -7,10 +7,9 @@ ghost use Rattle.beta_tree.specs.Answers.{HasCause, fission_answer, fuse_answer,
 
 use crate::copies::next_sibling;
 use crate::looks::{count_children, is_leaf, is_permutation, is_under, split_prefix};
-use crate::numbering::dense_vectors;
 use crate::rebuilds::{join_all, level_all, reorder_all, split_all, split_leaves};
 use crate::refusals::BetaFail;
-use row_core::Coeff;
+use row_core::{Coeff, dense_vectors};
 use std::alloc::Global;
 use std::marker::Model;
 use suite_base::{List, NoMemory};

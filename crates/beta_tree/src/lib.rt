@@ -6,7 +6,6 @@ mod copies;
 mod edits;
 mod laws;
 mod looks;
-mod numbering;
 mod rebuilds;
 mod refusals;
 

@@ -2,3 +2,11 @@ pub mod NumberLemmas
 pub mod Turns
 pub mod ValueLemmas
 pub mod StatementLemmas
+pub mod TokenFacts
+pub mod Yields
+pub mod ValueYields
+pub mod StatementYields
+pub mod Comes
+pub mod ValueComes
+pub mod StatementComes
+pub mod RegionLemmas

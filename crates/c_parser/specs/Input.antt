@@ -57,9 +57,9 @@ after r = record { text = r.text; at = behind r }
 unfoldable pub piece : Reading → Piece
 piece r = record { from = start r; to = behind r }
 
--- how many bytes are unread
+-- more turns than tokens are to come: one more than the bytes that are unread
 abbrev pub left : Reading → ℕ
-left r = length r.text - r.at
+left r = length r.text - r.at + 1
 
 -- ---- parsers
 

@@ -4,5 +4,7 @@ pub mod Cursor
 pub mod Values
 pub mod Nests
 pub mod Statements
+pub mod Grammar
+pub mod Derivations
 pub mod Regions
 pub mod Stops

@@ -1,6 +1,6 @@
 //! The parser's entry: the span of a region to its tree.
 
-ghost use Rattle.std.specs.Prelude.{◌≡◌, ◌<◌, ◌≤◌, ◌-◌, ◌^◌, length};
+ghost use Rattle.std.specs.Prelude.{◌≡◌, ◌<◌, ◌≤◌, ◌-◌, ◌^◌, length, IfOk};
 ghost use Rattle.c_lexer.specs.Places.{place_at};
 ghost use Rattle.c_parser.specs.Regions as spec;
 
@@ -19,6 +19,19 @@ use suite_base::Fail;
 /// region begins so, and `TooDeep` at the thirteenth nested `for` and where the 65th nest opens. Nests
 /// are brackets of any kind, the branches of an `if`, operands of unary signs, and what follows `?`.
 pub fn parse_region<'a>(alloc: Global, bytes: &'a [u8], span: Span) -> Result<Region<'a>, Fail>
+    requires small { length bytes.now < 2 ^ 32 - 1 }
+    requires order { span.from ≤ span.to }
+    requires within { span.to ≤ length bytes.now }
+    requires placed { span.first ≡ place_at bytes.now span.from }
+    ensures reads { spec.Parses bytes.now span result }
+    ensures derived { IfOk result (λ found. spec.IsRegion bytes.now span found.nodes) }
+    ensures complete { spec.Completes bytes.now span result }
+{
+    read(alloc, bytes, span)
+}
+
+/// The same by the rules, each of which looks one token ahead.
+fn read<'a>(alloc: Global, bytes: &'a [u8], span: Span) -> Result<Region<'a>, Fail>
     requires small { length bytes.now < 2 ^ 32 - 1 }
     requires order { span.from ≤ span.to }
     requires within { span.to ≤ length bytes.now }

@@ -1,6 +1,6 @@
 //! A cursor over the tokens of a region, which cuts each as it is reached.
 
-ghost use Rattle.std.specs.Prelude.{◌≡◌, ◌<◌, ◌≤◌, length, OnOk};
+ghost use Rattle.std.specs.Prelude.{◌≡◌, ◌<◌, ◌≤◌, ◌^◌, length, OnOk};
 ghost use Rattle.c_lexer.specs.Readings.{Reading, slice};
 ghost use Rattle.c_parser.specs.Input as spec;
 ghost use Rattle.c_parser.specs.Statements as statement;
@@ -57,6 +57,7 @@ fn fetch(lexer: &mut Lexer<'_>) -> (Symbol, usize, Place)
 
 impl<'a> Tokens<'a> {
     pub fn new(lexer: Lexer<'a>) -> Tokens<'a>
+        requires { length lexer.text < 2 ^ 32 }
         ensures { result ≡ lexer.entry }
     {
         let mut lexer = lexer;
@@ -84,11 +85,11 @@ impl<'a> Tokens<'a> {
         self.from
     }
 
-    /// How many bytes are unread.
+    /// More turns than tokens are to come: one more than the bytes that are unread.
     pub fn left(&self) -> usize
         ensures { result ≡ spec.left self.now }
     {
-        self.lexer.len().saturating_sub(self.at)
+        self.lexer.len().saturating_sub(self.at) + 1
     }
 
     /// Takes the next token, whatever it is.

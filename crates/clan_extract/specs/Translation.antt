@@ -3,7 +3,9 @@ use Rattle.std.specs.Prelude.{ℕ, List, [], ◌∷◌, ℤ, pos, negsuc, neg_�
 use Rattle.relation_core.specs.Systems.{System}
 use Rattle.relation_core.specs.declared.part_rows.RowKind.TheVariants.{AtLeast}
 use Rattle.scop_core.specs.declared.affines.Affine.{Affine}
+use Rattle.scop_core.specs.declared.accesses.Access.{Access}
 use Rattle.scop_core.specs.declared.accesses.AccessKind.TheVariants.{Write}
+use Rattle.scop_core.specs.declared.schedules.Schedule.{Schedule}
 use Rattle.scop_core.specs.declared.statements.Statement.{Statement}
 use Rattle.scop_core.specs.ScopData.{ScopData}
 use Rattle.scop_core.specs.Memory.{Agree}
@@ -46,6 +48,14 @@ one_loop_region l = Then (For l.iterator (Number l.start) IsLess (Name l.paramet
 abbrev pub the_iterator : Affine
 the_iterator = record { iterators = pos 1 ∷ []; floors = []; parameters = pos 0 ∷ []; constant = pos 0 }
 
+-- one level, the iterator, and betas 0
+abbrev pub one_loop_schedule : Schedule
+one_loop_schedule = record { floors = []; levels = the_iterator ∷ []; betas = pos 0 ∷ (pos 0 ∷ []) }
+
+-- a write of array 1 at the iterator
+abbrev pub one_loop_access : Access
+one_loop_access = record { kind = Write; array = pos 1; subscripts = the_iterator ∷ [] }
+
 -- X - C >= 0 and -X + P - 1 >= 0
 abbrev pub one_loop_domain : ℕ → System
 one_loop_domain start = record {
@@ -58,8 +68,8 @@ one_loop_domain start = record {
 abbrev pub one_loop_statement : OneLoop → Statement
 one_loop_statement l = record {
   domain = one_loop_domain l.start ∷ [];
-  schedule = record { floors = []; levels = the_iterator ∷ []; betas = pos 0 ∷ (pos 0 ∷ []) };
-  accesses = record { kind = Write; array = pos 1; subscripts = the_iterator ∷ [] } ∷ [];
+  schedule = one_loop_schedule;
+  accesses = one_loop_access ∷ [];
   body = record { text = l.text; iterators = l.iterator ∷ [] };
   extensions = [];
 }

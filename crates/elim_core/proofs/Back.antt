@@ -63,10 +63,10 @@ from_substituted_row width j e w v p le lw l m =
           subst (Meets w.kind) g k
     ]
 
-kind_stays : (j : ℕ) (e w : PartRow) → (substituted_row j e w).kind ≡ w.kind
+pub kind_stays : (j : ℕ) (e w : PartRow) → (substituted_row j e w).kind ≡ w.kind
 kind_stays j e w = elim (by_bool (is_zero (entry w.entries j))) [ inl z ↦ rw z refl | inr z ↦ rw z refl ]
 
-unsigned_positive : (a : ℤ) → is_zero a ≡ false → pos 0 <ℤ pos (unsigned_abs a)
+pub unsigned_positive : (a : ℤ) → is_zero a ≡ false → pos 0 <ℤ pos (unsigned_abs a)
 unsigned_positive (pos zero) z = cc
 unsigned_positive (pos (suc n)) z = omega (arith, ints)
 unsigned_positive (negsuc n) z = omega (arith, ints)
@@ -77,7 +77,7 @@ from_substituted_rows width j e [] v p le lw l m = tt
 from_substituted_rows width j e (w ∷ ws) v p le lw l m =
     (from_substituted_row width j e w v p le lw.0 l (subst (λ k. Meets k (dot (substituted_row j e w).entries v)) (kind_stays j e w) m.0), from_substituted_rows width j e ws v p le lw.1 l m.1)
 
-with_equality : (ws : List PartRow) (e : PartRow) (v : List ℤ) → first_equality ws ≡ Some e → Meets e.kind (dot e.entries v) → MeetsAll (without_equality ws) v → MeetsAll ws v
+pub with_equality : (ws : List PartRow) (e : PartRow) (v : List ℤ) → first_equality ws ≡ Some e → Meets e.kind (dot e.entries v) → MeetsAll (without_equality ws) v → MeetsAll ws v
 with_equality [] e v f h m = cc
 with_equality (w ∷ ws) e v f h m = elim (by_bool (is_equal w.kind)) [
   | inl k ↦ let g : Some w ≡ Some e = rw k at f in let s : e ≡ w = cc in

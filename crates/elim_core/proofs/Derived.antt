@@ -11,27 +11,12 @@ use Rattle.relation_core.specs.declared.part_rows.RowKind.TheVariants.{Equal, At
 use Rattle.relation_core.specs.Points.{column}
 use Rattle.farkas_cert.specs.Certificates.{AllowedOne, Allowed, Valid}
 use Rattle.farkas_cert.proofs.Laws.{entry_scale}
+pub use Rattle.elim_core.specs.Multipliers.{FreeOne, Free, AllowedFor, IsDerived, Derived}
 use Rattle.elim_core.specs.Gcd.{divided}
 use Rattle.elim_core.specs.Elimination.{is_zero, is_constant, is_contradiction, fails, certificate_of, crossing, substituted_row, turned, is_equal}
 use Rattle.elim_core.proofs.Tests.{by_bool, nonzero_is, all_zero_is, first_of_cond, second_of_cond, not_less}
 use Rattle.elim_core.proofs.Quotients.{divided_is, length_divided}
 use Rattle.elim_core.proofs.Algebra.{entry_combined, length_combined, drop_scale, drop_combined, column_add, column_scale, negated_is}
-
--- a multiplier that stays allowed under every factor
-abbrev pub FreeOne : RowKind → ℤ → Type 0
-FreeOne Equal l = Unit {0}
-FreeOne AtLeast l = l ≡ pos 0
-
-abbrev pub Free : List PartRow → List ℤ → Type 0
-Free [] [] = Unit {0}
-Free [] (l ∷ ls) = ⊥
-Free (r ∷ rows) [] = ⊥
-Free (r ∷ rows) (l ∷ ls) = FreeOne r.kind l × Free rows ls
-
--- an inequality's multipliers are allowed, an equality's under every factor
-abbrev pub AllowedFor : RowKind → List PartRow → List ℤ → Type 0
-AllowedFor Equal rows ls = Free rows ls
-AllowedFor AtLeast rows ls = Allowed rows ls
 
 free_one_allowed : (kind : RowKind) (l : ℤ) → FreeOne kind l → AllowedOne kind l
 free_one_allowed Equal l f = tt
@@ -115,15 +100,6 @@ free_unscale (r ∷ rows) c (l ∷ ls) p f = (free_one_unscale r.kind c l p f.0,
 allowed_for_unscale : (kind : RowKind) (rows : List PartRow) (c : ℤ) (ls : List ℤ) → pos 0 <ℤ c → AllowedFor kind rows (scale c ls) → AllowedFor kind rows ls
 allowed_for_unscale Equal rows c ls p f = free_unscale rows c ls p f
 allowed_for_unscale AtLeast rows c ls p f = allowed_unscale rows c ls p f
-
--- a working row is the combination of the system's rows by its multipliers
-pub record IsDerived (n : ℕ) (rows : List PartRow) (kind : RowKind) (cells : List ℤ) : Type 0 where
-  pub width : length cells ≡ n + 1 + length rows
-  pub combines : (k : ℕ) → k ≤ n → entry cells k ≡ column (drop (n + 1) cells) rows k
-  pub allowed : AllowedFor kind rows (drop (n + 1) cells)
-
-abbrev pub Derived : ℕ → List PartRow → PartRow → Type 0
-Derived n rows w = IsDerived n rows w.kind w.entries
 
 pub divided_derived : (n : ℕ) (rows : List PartRow) (kind : RowKind) (cells : List ℤ) → IsDerived n rows kind cells → IsDerived n rows kind (divided cells)
 divided_derived n rows kind cells d =

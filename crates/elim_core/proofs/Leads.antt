@@ -2,7 +2,7 @@
 use Rattle.std.proofs.Common.{◌≡◌, refl, ap, sym, ◌∙◌, ℕ, zero, suc, ◌+◌, ◌≤◌, List, ◌∷◌, length, arith}
 use Rattle.std.specs.Prelude.{Some, None, ℤ}
 use Rattle.relation_core.specs.declared.part_rows.PartRow.{PartRow}
-use Rattle.elim_core.specs.Elimination.{Elimination, after, refutation_of, projected, crossed_weight, tidied, first_equality, without, without_weight, from_columns, from_equalities, started, elimination}
+use Rattle.elim_core.specs.Elimination.{Elimination, after, refutation_of, projected, crossed_weight, tidied, first_equality, without, without_weight, from_columns, from_equalities}
 
 pub record Leads (part whole : Elimination) : Type 0 where
   pub refutation : part.refutation ≡ whole.refutation
@@ -55,9 +55,3 @@ equality_weight_within n (suc m) k js e ws l f = rw (f, from_equalities) (omega 
 pub no_equality_leads : (n m : ℕ) (js : List ℕ) (ws : List PartRow) → first_equality ws ≡ None → from_equalities n js m ws ≡ from_columns n js ws
 no_equality_leads n zero js ws f = refl
 no_equality_leads n (suc m) js ws f = rw (f, from_equalities) refl
-
-pub begun : (n : ℕ) (js : List ℕ) (rows : List PartRow) → refutation_of n (started rows) ≡ None → elimination n js rows ≡ from_equalities n js (length rows) (tidied n (started rows))
-begun n js rows e = rw (e, elimination) refl
-
-pub ended : (n : ℕ) (js : List ℕ) (rows : List PartRow) (c : List ℤ) → refutation_of n (started rows) ≡ Some c → (elimination n js rows).refutation ≡ Some c
-ended n js rows c e = rw (e, elimination) refl

@@ -14,3 +14,6 @@ pub mod CodeSteps
 pub mod Widths
 pub mod Leads
 pub mod ColumnOrder
+pub mod Reducing
+pub mod Joining
+pub mod MarkLaws

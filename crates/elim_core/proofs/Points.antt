@@ -89,12 +89,12 @@ covers a b x q p e ka kb l m =
     omega (arith, ints, dot_split a.entries x q, dot_split b.entries x q, mul_comm_z q (entry a.entries (length x)), mul_comm_z q (entry b.entries (length x))))
 
 -- what alike rows are
-record AreAlike (n : ℕ) (a b : PartRow) : Type 0 where
-  left : is_equal a.kind ≡ false
-  right : is_equal b.kind ≡ false
-  same : take n a.entries ≡ take n b.entries
+pub record AreAlike (n : ℕ) (a b : PartRow) : Type 0 where
+  pub left : is_equal a.kind ≡ false
+  pub right : is_equal b.kind ≡ false
+  pub same : take n a.entries ≡ take n b.entries
 
-alike_is : (n : ℕ) (a b : PartRow) → alike n a b ≡ true → AreAlike n a b
+pub alike_is : (n : ℕ) (a b : PartRow) → alike n a b ≡ true → AreAlike n a b
 alike_is n a b e = elim (by_bool (is_equal a.kind)) [
   | inl f ↦ let g : false ≡ true = rw f at e in cc
   | inr f ↦ elim (by_bool (is_equal b.kind)) [

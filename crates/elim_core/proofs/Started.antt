@@ -1,5 +1,5 @@
 -- The working rows with which the elimination begins.
-use Rattle.std.proofs.Common.{◌≡◌, refl, ap, sym, subst, ◌∙◌, ℕ, zero, suc, ◌+◌, ◌-◌, ◌<◌, List, [], ◌∷◌, ◌++◌, length, drop, replicate, arith, append_assoc}
+use Rattle.std.proofs.Common.{◌≡◌, refl, ap, sym, subst, ◌∙◌, ℕ, zero, suc, ◌+◌, ◌-◌, ◌<◌, ◌≤◌, List, [], ◌∷◌, ◌++◌, length, drop, replicate, arith, append_assoc}
 use Rattle.std.specs.Prelude.{ℤ, pos, ◌+ℤ◌, ◌*ℤ◌}
 use Rattle.std.proofs.lemmas.Int.{ints}
 use Rattle.std.proofs.lemmas.List.{length-append, length-replicate, get_or_append_left}
@@ -19,7 +19,7 @@ pub all_wide : (width : ℕ) (rows : List PartRow) → ((k : ℕ) → k < length
 all_wide width [] h = tt
 all_wide width (r ∷ rows) h = (h 0 (omega arith), all_wide width rows (λ k l. h (suc k) (omega arith)))
 
-column_zeros : (j : ℕ) (rows : List PartRow) (k : ℕ) → column (replicate j (pos 0)) rows k ≡ pos 0
+pub column_zeros : (j : ℕ) (rows : List PartRow) (k : ℕ) → column (replicate j (pos 0)) rows k ≡ pos 0
 column_zeros zero rows k = refl
 column_zeros (suc j) [] k = refl
 column_zeros (suc j) (r ∷ rows) k = omega (arith, ints, column_zeros j rows k)
@@ -40,13 +40,13 @@ allowed_one : (kind : RowKind) → AllowedOne kind (pos 1)
 allowed_one Equal = tt
 allowed_one AtLeast = omega (arith, ints)
 
-free_zeros : (rows : List PartRow) (j : ℕ) → j ≡ length rows → Free rows (replicate j (pos 0))
+pub free_zeros : (rows : List PartRow) (j : ℕ) → j ≡ length rows → Free rows (replicate j (pos 0))
 free_zeros [] zero e = tt
 free_zeros [] (suc j) e = absurd (omega arith)
 free_zeros (r ∷ rows) zero e = absurd (omega arith)
 free_zeros (r ∷ rows) (suc j) e = (free_zero r.kind, free_zeros rows j (omega arith))
 
-allowed_zeros : (rows : List PartRow) (j : ℕ) → j ≡ length rows → Allowed rows (replicate j (pos 0))
+pub allowed_zeros : (rows : List PartRow) (j : ℕ) → j ≡ length rows → Allowed rows (replicate j (pos 0))
 allowed_zeros [] zero e = tt
 allowed_zeros [] (suc j) e = absurd (omega arith)
 allowed_zeros (r ∷ rows) zero e = absurd (omega arith)
@@ -85,7 +85,7 @@ started_row n before r after w =
       allowed = subst (AllowedFor r.kind (before ++ (r ∷ after))) (sym d) (allowed_for_unit r.kind before r.entries after (length (before ++ (r ∷ after)) - length before - 1) j);
     }
 
-started_rows : (n : ℕ) (rows before after : List PartRow) (i : ℕ) → before ++ after ≡ rows → i ≡ length before → AllRows (Wide (n + 1)) after → AllRows (Derived n rows) (started_from (length rows) i after)
+pub started_rows : (n : ℕ) (rows before after : List PartRow) (i : ℕ) → before ++ after ≡ rows → i ≡ length before → AllRows (Wide (n + 1)) after → AllRows (Derived n rows) (started_from (length rows) i after)
 started_rows n rows before [] i e f w = tt
 started_rows n rows before (r ∷ after) i e f w =
     let h : IsDerived n (before ++ (r ∷ after)) r.kind (r.entries ++ unit (length before) (length (before ++ (r ∷ after)))) = started_row n before r after w.0 in
@@ -101,17 +101,17 @@ length_started m i [] = refl
 length_started m i (r ∷ rows) = omega (arith, length_started m (i + 1) rows)
 
 -- the multipliers lie past the point
-dot_append : (a u v : List ℤ) → length v ≡ length a → dot (a ++ u) v ≡ dot a v
+pub dot_append : (a u v : List ℤ) → length v ≤ length a → dot (a ++ u) v ≡ dot a v
 dot_append [] [] [] e = refl
 dot_append [] (y ∷ u) [] e = refl
 dot_append [] u (x ∷ v) e = absurd (omega arith)
 dot_append (c ∷ a) u [] e = refl
 dot_append (c ∷ a) u (x ∷ v) e = ap (λ n. (c *ℤ x) +ℤ n) (dot_append a u v (omega arith))
 
-from_started_rows : (m i width : ℕ) (rows : List PartRow) (v : List ℤ) → length v ≡ width → AllRows (Wide width) rows → MeetsAll (started_from m i rows) v → MeetsAll rows v
+pub from_started_rows : (m i width : ℕ) (rows : List PartRow) (v : List ℤ) → length v ≡ width → AllRows (Wide width) rows → MeetsAll (started_from m i rows) v → MeetsAll rows v
 from_started_rows m i width [] v e w s = tt
 from_started_rows m i width (r ∷ rows) v e w s =
-    (subst (Meets r.kind) (dot_append r.entries (unit i m) v (e ∙ sym w.0)) s.0, from_started_rows m (i + 1) width rows v e w.1 s.1)
+    (subst (Meets r.kind) (dot_append r.entries (unit i m) v (omega (arith, e, w.0))) s.0, from_started_rows m (i + 1) width rows v e w.1 s.1)
 
 pub from_started : (n : ℕ) (rows : List PartRow) → AllRows (Wide (n + 1)) rows → HasPoint n (started rows) → HasPoint n rows
 from_started n rows w h =

@@ -12,7 +12,7 @@ use Rattle.relation_core.specs.Points.{HasPoint}
 use Rattle.farkas_cert.specs.Certificates.{Valid}
 use Rattle.farkas_cert.proofs.Laws.{entry_scale}
 use Rattle.elim_core.specs.Gcd.{divided}
-use Rattle.elim_core.specs.Elimination.{is_zero, all_zero, refutation_of, without, tidied, first_equality, without_equality, last_variable, substituted, crossing, projected, started, from_columns, from_equalities, elimination, In, Covers, Below}
+use Rattle.elim_core.specs.Elimination.{is_zero, all_zero, refutation_of, without, tidied, first_equality, without_equality, last_variable, substituted, crossing, projected, started, from_columns, from_equalities, from_rows, elimination, In, Covers, Below}
 use Rattle.elim_core.proofs.Tests.{by_bool, zero_is, all_zero_is, all_zero_test}
 use Rattle.elim_core.proofs.Quotients.{divided_is}
 use Rattle.elim_core.proofs.Algebra.{entry_combined}
@@ -36,7 +36,7 @@ all_map : (P Q : PartRow → Type 0) (ws : List PartRow) → ((w : PartRow) → 
 all_map P Q [] h p = tt
 all_map P Q (w ∷ ws) h p = (h w p.0, all_map P Q ws h p.1)
 
-wide_of : (n : ℕ) (rows ws : List PartRow) → AllRows (Derived n rows) ws → AllRows (Wide (n + 1 + length rows)) ws
+pub wide_of : (n : ℕ) (rows ws : List PartRow) → AllRows (Derived n rows) ws → AllRows (Wide (n + 1 + length rows)) ws
 wide_of n rows ws d = all_map (Derived n rows) (Wide (n + 1 + length rows)) ws (λ w e. e.width) d
 
 valid_refutation : (n : ℕ) (rows ws : List PartRow) (c : List ℤ) → refutation_of n ws ≡ Some c → AllRows (Derived n rows) ws → Valid n rows c
@@ -127,9 +127,9 @@ columns_refuted n rows (j ∷ js) ws cert d e = elim (by_option (refutation_of n
 
 -- The equalities.
 
-record HasEntry (n : ℕ) (cells : List ℤ) (j : ℕ) : Type 0 where
-  entry_is : is_zero (entry cells j) ≡ false
-  below : j < n
+pub record HasEntry (n : ℕ) (cells : List ℤ) (j : ℕ) : Type 0 where
+  pub entry_is : is_zero (entry cells j) ≡ false
+  pub below : j < n
 
 one_more : (k : ℕ) (cells : List ℤ) → all_zero (take k cells) ≡ true → is_zero (entry cells k) ≡ true → (i : ℕ) → i < suc k → entry cells i ≡ pos 0
 one_more k cells a z i l = elim (by_bool (nat_eq i k)) [
@@ -137,7 +137,7 @@ one_more k cells a z i l = elim (by_bool (nat_eq i k)) [
   | inr e ↦ let g : i < k = grind (arith, nat_tests) in all_zero_is k cells a i g
 ]
 
-last_is : (n : ℕ) (cells : List ℤ) → all_zero (take n cells) ≡ false → HasEntry n cells (last_variable n cells)
+pub last_is : (n : ℕ) (cells : List ℤ) → all_zero (take n cells) ≡ false → HasEntry n cells (last_variable n cells)
 last_is zero cells v = cc
 last_is (suc k) cells v = elim (by_bool (is_zero (entry cells k))) [
   | inl z ↦ elim (by_bool (all_zero (take k cells))) [
@@ -149,7 +149,7 @@ last_is (suc k) cells v = elim (by_bool (is_zero (entry cells k))) [
   | inr z ↦ rw z (record { entry_is = z; below = omega arith })
 ]
 
-substituted_all_derived : (n : ℕ) (rows ws : List PartRow) (j : ℕ) (e : PartRow) → first_equality ws ≡ Some e → AllRows (Derived n rows) ws → AllRows (Derived n rows) (substituted j e (without_equality ws))
+pub substituted_all_derived : (n : ℕ) (rows ws : List PartRow) (j : ℕ) (e : PartRow) → first_equality ws ≡ Some e → AllRows (Derived n rows) ws → AllRows (Derived n rows) (substituted j e (without_equality ws))
 substituted_all_derived n rows ws j e f d =
     let h = at_first_equality (Derived n rows) ws e f d in
     all_substituted (Derived n rows) (Derived n rows) j e (without_equality ws) (substituted_derived n rows j e h.0 h.1) (all_without_equality (Derived n rows) ws d)
@@ -211,22 +211,28 @@ equalities_refuted n rows js (suc more) ws cert d r = elim (by_option (first_equ
 
 -- The whole.
 
-pub elimination_solved : (n : ℕ) (js : List ℕ) (rows : List PartRow) → AllRows (Wide (n + 1)) rows → Covers n js → Below n js → (elimination n js rows).refutation ≡ None → HasPoint n rows
-elimination_solved n js rows w c b r = elim (by_option (refutation_of n (started rows))) [
-  | inl a ↦ let f : Some a.0 ≡ None = rw (a.1, elimination) at r in cc
+pub rows_solved : (n : ℕ) (rows : List PartRow) (js : List ℕ) (most : ℕ) (ws : List PartRow) → length ws ≤ most → Covers n js → Below n js → AllRows (Derived n rows) ws → (from_rows n js most ws).refutation ≡ None → HasPoint n ws
+rows_solved n rows js most ws l c b d r = elim (by_option (refutation_of n ws)) [
+  | inl a ↦ let f : Some a.0 ≡ None = rw (a.1, from_rows) at r in cc
   | inr a ↦
-      let f : (from_equalities n js (length rows) (tidied n (started rows))).refutation ≡ None = rw (a, elimination) at r in
-      let d = started_derived n rows w in
-      let k : length (tidied n (started rows)) ≤ length rows = omega (arith, length_tidied n (started rows), length_started (length rows) 0 rows) in
-      from_started n rows w (from_tidied n (started rows) (no_refutation n (started rows) a)
-      (equalities_solved n rows js (length rows) (tidied n (started rows)) k c b (all_tidied (Derived n rows) n (started rows) d) (tidied_variables n (started rows)) f))
+      let f : (from_equalities n js most (tidied n ws)).refutation ≡ None = rw (a, from_rows) at r in
+      let k : length (tidied n ws) ≤ most = omega (arith, length_tidied n ws) in
+      from_tidied n ws (no_refutation n ws a)
+      (equalities_solved n rows js most (tidied n ws) k c b (all_tidied (Derived n rows) n ws d) (tidied_variables n ws) f)
 ]
 
-pub elimination_refuted : (n : ℕ) (js : List ℕ) (rows : List PartRow) (cert : List ℤ) → AllRows (Wide (n + 1)) rows → (elimination n js rows).refutation ≡ Some cert → Valid n rows cert
-elimination_refuted n js rows cert w r = elim (by_option (refutation_of n (started rows))) [
-  | inl a ↦ let f : Some a.0 ≡ Some cert = rw (a.1, elimination) at r in
+pub rows_refuted : (n : ℕ) (rows : List PartRow) (js : List ℕ) (most : ℕ) (ws : List PartRow) (cert : List ℤ) → AllRows (Derived n rows) ws → (from_rows n js most ws).refutation ≡ Some cert → Valid n rows cert
+rows_refuted n rows js most ws cert d r = elim (by_option (refutation_of n ws)) [
+  | inl a ↦ let f : Some a.0 ≡ Some cert = rw (a.1, from_rows) at r in
       let g : a.0 ≡ cert = cc in
-      subst (Valid n rows) g (valid_refutation n rows (started rows) a.0 a.1 (started_derived n rows w))
-  | inr a ↦ let f : (from_equalities n js (length rows) (tidied n (started rows))).refutation ≡ Some cert = rw (a, elimination) at r in
-      equalities_refuted n rows js (length rows) (tidied n (started rows)) cert (all_tidied (Derived n rows) n (started rows) (started_derived n rows w)) f
+      subst (Valid n rows) g (valid_refutation n rows ws a.0 a.1 d)
+  | inr a ↦ let f : (from_equalities n js most (tidied n ws)).refutation ≡ Some cert = rw (a, from_rows) at r in
+      equalities_refuted n rows js most (tidied n ws) cert (all_tidied (Derived n rows) n ws d) f
 ]
+
+pub elimination_solved : (n : ℕ) (js : List ℕ) (rows : List PartRow) → AllRows (Wide (n + 1)) rows → Covers n js → Below n js → (elimination n js rows).refutation ≡ None → HasPoint n rows
+elimination_solved n js rows w c b r =
+    from_started n rows w (rows_solved n rows js (length rows) (started rows) (omega (arith, length_started (length rows) 0 rows)) c b (started_derived n rows w) r)
+
+pub elimination_refuted : (n : ℕ) (js : List ℕ) (rows : List PartRow) (cert : List ℤ) → AllRows (Wide (n + 1)) rows → (elimination n js rows).refutation ≡ Some cert → Valid n rows cert
+elimination_refuted n js rows cert w r = rows_refuted n rows js (length rows) (started rows) cert (started_derived n rows w) r

@@ -23,7 +23,7 @@ wide_projected width j ws a = all_projected (Wide width) (Wide width) j ws (λ w
 pub wide_tidied : (width n : ℕ) (ws : List PartRow) → AllRows (Wide width) ws → AllRows (Wide width) (tidied n ws)
 wide_tidied width n ws a = all_tidied (Wide width) n ws a
 
-substituted_wide : (width j : ℕ) (e w : PartRow) → Wide width e → Wide width w → Wide width (substituted_row j e w)
+pub substituted_wide : (width j : ℕ) (e w : PartRow) → Wide width e → Wide width w → Wide width (substituted_row j e w)
 substituted_wide width j e w a b = elim (by_bool (is_zero (entry w.entries j))) [
   | inl z ↦ rw z b
   | inr z ↦ rw z (length_divided (combined (pos (unsigned_abs (entry e.entries j))) w.entries (turned (entry e.entries j) (entry w.entries j)) e.entries)

@@ -187,9 +187,13 @@ abbrev pub from_equalities : ℕ → List ℕ → ℕ → List PartRow → Elimi
 from_equalities n columns zero ws = from_columns n columns ws
 from_equalities n columns (suc more) ws = elim (first_equality ws) [ None ↦ from_columns n columns ws | Some e ↦ after (without_weight n e ws) 0 (elim (refutation_of n (without n e ws)) [ Some certificate ↦ ends_with (Some certificate) | None ↦ from_equalities n columns more (tidied n (without n e ws)) ]) ]
 
+-- from any working rows: look and prune come once before the rest
+abbrev pub from_rows : ℕ → List ℕ → ℕ → List PartRow → Elimination
+from_rows n columns most ws = elim (refutation_of n ws) [ Some certificate ↦ ends_with (Some certificate) | None ↦ from_equalities n columns most (tidied n ws) ]
+
 -- the stated elimination of a system of n variables, whose columns are projected in the given order
 abbrev pub elimination : ℕ → List ℕ → List PartRow → Elimination
-elimination n columns rows = elim (refutation_of n (started rows)) [ Some certificate ↦ ends_with (Some certificate) | None ↦ from_equalities n columns (length rows) (tidied n (started rows)) ]
+elimination n columns rows = from_rows n columns (length rows) (started rows)
 
 -- a column stands in a list of columns
 abbrev pub In : ℕ → List ℕ → Type 0

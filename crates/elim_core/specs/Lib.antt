@@ -1,5 +1,8 @@
 pub mod Gcd
 pub mod Elimination
 pub mod RowLists
+pub mod Marks
+pub mod Multipliers
+pub mod Reductions
 pub mod Causes
 pub mod Peaks

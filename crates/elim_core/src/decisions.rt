@@ -7,11 +7,10 @@ ghost use Rattle.elim_core.specs.Elimination.{started, Below};
 ghost use Rattle.elim_core.specs.RowLists.{AllRows, Wide};
 ghost use Rattle.elim_core.specs.Peaks.{column_order, stated, peak, IsRight};
 
+use crate::counts::{row_count, variable_count};
 use crate::orders::column_order;
-use crate::phases::from_equalities;
-use crate::refutations::look;
+use crate::phases::from_rows;
 use crate::starts::start;
-use crate::tidying::tidy;
 use crate::verdicts::{ElimFail, Verdict};
 use farkas_cert::{Certificate, TooHeavy, check};
 use relation_core::Part;
@@ -70,31 +69,5 @@ fn eliminate<R: Row>(alloc: Global, system: &Part) -> Result<Option<Certificate>
     let width = n + 1 + count;
     let columns = column_order(alloc, system)?;
     let rows = start::<R>(alloc, system)?;
-    match look(alloc, n, width, rows.as_slice())? {
-        Some(certificate) => return Ok(Some(certificate)),
-        None => {}
-    }
-    let tidied = tidy(alloc, n, width, rows)?;
-    from_equalities(alloc, n, width, columns.as_slice(), count, tidied)
-}
-
-// The number of variables.
-fn variable_count(system: &Part) -> usize
-    ensures value { result ≡ columns system.now.shape }
-    ensures range { result ≤ 262144 }
-    ensures order { Below (columns system.now.shape) (column_order system.now.shape) }
-{
-    let _limits = system.shape();
-    system.width() - 1
-}
-
-// The number of rows, each of which has an entry for each variable and the constant.
-fn row_count(system: &Part) -> usize
-    ensures value { result ≡ length system.now.rows }
-    ensures range { result < 2 ^ 63 }
-    ensures wide { AllRows (Wide (columns system.now.shape + 1)) system.now.rows }
-    ensures started { AllRows (Wide (columns system.now.shape + 1 + length system.now.rows)) (started system.now.rows) }
-{
-    let _form = system.row_count();
-    system.rows().len()
+    from_rows(alloc, n, width, columns.as_slice(), count, rows)
 }

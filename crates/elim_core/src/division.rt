@@ -66,7 +66,7 @@ fn quotients<R: Row>(alloc: Global, row: &R, divisor: u128) -> Result<Vec<Coeff>
     requires range { divisor < 2 ^ 127 }
     ensures { IfOk result (λ cells. cells.items ≡ divided_by divisor (R.coefficients row.now)) }
 {
-    let mut cells = Vec::new(alloc);
+    let mut cells = Vec::with_capacity(alloc, row.len())?;
     for k in 0..row.len() {
         cells.push(quotient(row.get(k), divisor))?;
     }

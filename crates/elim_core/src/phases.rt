@@ -3,7 +3,7 @@
 
 ghost use Rattle.std.specs.Prelude.{◌≡◌, ◌<◌, ◌≤◌, ◌^◌, length, remove, Some, None, IfOk, IfErr};
 ghost use Rattle.relation_core.specs.Systems.{row_at};
-ghost use Rattle.elim_core.specs.Elimination.{first_equality, without_equality, without, without_weight, from_columns, from_equalities, Below};
+ghost use Rattle.elim_core.specs.Elimination.{first_equality, without_equality, without, without_weight, from_columns, from_equalities, from_rows, Below};
 ghost use Rattle.elim_core.specs.RowLists.{AllRows, Wide};
 
 use crate::projections::project;
@@ -16,8 +16,32 @@ use farkas_cert::Certificate;
 use row_core::Row;
 use std::alloc::Global;
 
-/// Substitutes the equalities, at most `most` of them, and then projects `columns`.
-pub fn from_equalities<R: Row>(
+/// Looks and prunes, substitutes the equalities, at most `most` of them, and then projects `columns`.
+pub fn from_rows<R: Row>(
+    alloc: Global,
+    n: usize,
+    width: usize,
+    columns: &[usize],
+    most: usize,
+    rows: Vec<WorkingRow<R>>,
+) -> Result<Option<Certificate>, ElimFail>
+    requires fits { n < width }
+    requires columns { Below n columns.now }
+    requires wide { AllRows (Wide width) rows.items }
+    ensures ok { IfOk result (λ found. found ≡ (from_rows n columns.now most rows.items).refutation) }
+    ensures overflow { IfErr result (λ fail. fail ≡ ElimFail.Overflow → 2 ^ 127 ≤ (from_rows n columns.now most rows.items).weight) }
+    ensures rows { IfErr result (λ fail. fail ≡ ElimFail.TooManyRows → 16384 < (from_rows n columns.now most rows.items).count) }
+{
+    match look(alloc, n, width, rows.as_slice())? {
+        Some(certificate) => return Ok(Some(certificate)),
+        None => {}
+    }
+    let tidied = tidy(alloc, n, width, rows)?;
+    from_equalities(alloc, n, width, columns, most, tidied)
+}
+
+// Substitutes the equalities, at most `most` of them, and then projects `columns`.
+fn from_equalities<R: Row>(
     alloc: Global,
     n: usize,
     width: usize,

@@ -1,11 +1,13 @@
 //! Look and prune: whether some row is a contradiction, and else the rows that stay.
 
-ghost use Rattle.std.specs.Prelude.{◌≡◌, ◌<◌, ◌≤◌, ◌+◌, [], ◌++◌, ◌∷◌, length, take, int_le, slice_get, remove, cond, IfOk, OnOk, MatchOption, None, IsTrue, ◌↔◌};
+ghost use Rattle.std.specs.Prelude.{◌≡◌, ◌<◌, ◌≤◌, ◌+◌, [], ◌++◌, ◌∷◌, length, map, take, int_le, slice_get, remove, cond, IfOk, OnOk, MatchOption, None, IsTrue, ◌↔◌};
 ghost use Rattle.relation_core.specs.Systems.{row_at};
 ghost use Rattle.row_core.specs.Rows.{entry};
 ghost use Rattle.elim_core.specs.Elimination.{with_variables, refutation_of, certificate_of, same_cells, alike, admitted, pruned_onto, tidied};
+ghost use Rattle.elim_core.specs.Marks.{mark};
 ghost use Rattle.elim_core.specs.RowLists.{AllRows, Wide};
 
+use crate::marks::mark;
 use crate::signs::is_zero;
 use crate::working_rows::{WorkingRow, is_constant, is_contradiction};
 use row_core::{Coeff, Row};
@@ -39,37 +41,44 @@ pub fn tidy<R: Row>(
     ensures rows { IfOk result (λ kept. kept.items ≡ tidied n rows.items) }
     ensures wide { AllRows (Wide width) (tidied n rows.items) }
 {
-    let mut kept = Vec::new(alloc);
+    let mut kept = Vec::with_capacity(alloc, rows.len())?;
+    let mut marks = Vec::with_capacity(alloc, rows.len())?;
     for w in rows {
         if !is_constant(&w, n) {
-            admit(n, width, &mut kept, w)?;
+            admit(n, width, &mut kept, &mut marks, w)?;
         }
     }
     Ok(kept)
 }
 
-// Lets a row join pruned rows.
+// Lets a row join pruned rows. Each of these has its mark beside it.
 fn admit<R: Row>(
     n: usize,
     width: usize,
     kept: &mut Vec<WorkingRow<R>>,
+    marks: &mut Vec<u128>,
     w: WorkingRow<R>,
 ) -> Result<(), NoMemory>
     requires fits { n < width }
     requires wide { AllRows (Wide width) kept.old.items }
     requires row { length w.entries ≡ width }
+    requires marks { marks.old.items ≡ map (mark n) kept.old.items }
     ensures rows { OnOk result (kept.new.items ≡ admitted n kept.old.items w) }
     ensures wide { OnOk result (AllRows (Wide width) (admitted n kept.old.items w)) }
+    ensures marks { OnOk result (marks.new.items ≡ map (mark n) kept.new.items) }
 {
-    match find_alike(n, width, kept.as_slice(), &w) {
+    let own = mark(n, &w);
+    match find_alike(n, width, kept.as_slice(), marks.as_slice(), &w, own) {
         None => {}
         Some(k) => {
             if is_at_most(kept[k].entry(n), w.entry(n)) {
                 return Ok(());
             }
             kept.remove(k);
+            marks.remove(k);
         }
     }
+    marks.push(own)?;
     kept.push(w)?;
     Ok(())
 }
@@ -79,27 +88,42 @@ fn find_alike<R: Row>(
     n: usize,
     width: usize,
     kept: &[WorkingRow<R>],
+    marks: &[u128],
     w: &WorkingRow<R>,
+    own: u128,
 ) -> Option<usize>
     requires fits { n < width }
     requires wide { AllRows (Wide width) kept.now }
     requires row { length w.now.entries ≡ width }
+    requires marks { marks.now ≡ map (mark n) kept.now }
+    requires own { own ≡ mark n w.now }
     ensures { MatchOption result (admitted n kept.now w.now ≡ kept.now ++ (w.now ∷ [])) (λ k. (k < length kept.now) × (admitted n kept.now w.now ≡ cond (int_le (entry (row_at kept.now k).entries n) (entry w.now.entries n)) kept.now (remove kept.now k ++ (w.now ∷ [])))) }
 {
     for k in 0..kept.len() {
-        if are_alike(n, &kept[k], w) {
+        if are_alike(n, &kept[k], marks[k], w, own) {
             return Some(k);
         }
     }
     None
 }
 
-// Whether two rows are inequalities with equal coefficients on all `n` variables.
-fn are_alike<R: Row>(n: usize, a: &WorkingRow<R>, b: &WorkingRow<R>) -> bool
+// Whether two rows, each with its mark, are inequalities with equal coefficients on all `n` variables.
+fn are_alike<R: Row>(
+    n: usize,
+    a: &WorkingRow<R>,
+    mark_a: u128,
+    b: &WorkingRow<R>,
+    mark_b: u128,
+) -> bool
     requires left { n ≤ length a.now.entries }
     requires right { n ≤ length b.now.entries }
+    requires mark_a { mark_a ≡ mark n a.now }
+    requires mark_b { mark_b ≡ mark n b.now }
     ensures { result ≡ alike n a.now b.now }
 {
+    if mark_a != mark_b {
+        return false;
+    }
     if a.is_equality() || b.is_equality() {
         return false;
     }

@@ -1,18 +1,20 @@
 //! A working row of the elimination: the entries of a row, its constant, and behind them one
 //! multiplier for each row of the system.
 
-ghost use Rattle.std.specs.Prelude.{◌≡◌, ◌<◌, ◌≤◌, ◌+◌, ◌^◌, pos, length, take, true, IfOk, IfErr, OnOk, IsTrue};
+ghost use Rattle.std.specs.Prelude.{◌≡◌, ◌<◌, ◌≤◌, ◌+◌, ◌++◌, ◌^◌, pos, length, replicate, take, true, IfOk, IfErr, OnOk, IsTrue};
 ghost use Rattle.row_core.specs.Rows.{entry, combined, combined_weight};
 ghost use Rattle.elim_core.specs.Gcd.{divided};
 ghost use Rattle.elim_core.specs.Elimination.{is_equal, is_constant, is_contradiction, fails, last_variable};
 
 use crate::division::divided;
 use crate::signs::{is_negative, is_zero};
+use crate::starts::push_zeros;
 use crate::verdicts::{ElimFail, failed};
 use relation_core::RowKind;
 use row_core::{Coeff, Row};
 use std::alloc::Global;
 use std::marker::Model;
+use suite_base::NoMemory;
 
 /// A row of the elimination, in one representation. Contracts see its kind and its entries.
 #[derive(Drop)]
@@ -64,6 +66,30 @@ impl<R: Row> WorkingRow<R> {
         self.row.get(k)
     }
 
+    /// A copy of the row.
+    pub fn copy(&self, alloc: Global) -> Result<WorkingRow<R>, NoMemory>
+        ensures { IfOk result (λ w. w ≡ self.now) }
+    {
+        let row = self.row.copy(alloc)?;
+        Ok(WorkingRow {
+            kind: self.kind,
+            row,
+        })
+    }
+
+    /// The row with `count` multipliers more, which are 0.
+    pub fn widened(&self, alloc: Global, count: usize) -> Result<WorkingRow<R>, NoMemory>
+        ensures { IfOk result (λ w. w ≡ record { kind = self.now.kind; entries = self.now.entries ++ replicate count (pos 0) }) }
+    {
+        let mut cells = cells_of(alloc, &self.row, count)?;
+        push_zeros(&mut cells, count)?;
+        let row = R::from_coeffs(alloc, cells.as_slice())?;
+        Ok(WorkingRow {
+            kind: self.kind,
+            row,
+        })
+    }
+
     /// The row `p a + q b` of this kind, divided by the greatest common divisor of its entries.
     pub fn combined(
         alloc: Global,
@@ -86,6 +112,17 @@ impl<R: Row> WorkingRow<R> {
             }
         }
     }
+}
+
+// The entries of a row, with room for `spare` more.
+fn cells_of<R: Row>(alloc: Global, row: &R, spare: usize) -> Result<Vec<Coeff>, NoMemory>
+    ensures { IfOk result (λ cells. cells.items ≡ R.coefficients row.now) }
+{
+    let mut cells = Vec::with_capacity(alloc, row.len().saturating_add(spare))?;
+    for k in 0..row.len() {
+        cells.push(row.get(k))?;
+    }
+    Ok(cells)
 }
 
 /// Whether the first `n` entries are 0.

@@ -2,3 +2,4 @@ mod Checks
 pub mod Ring
 pub mod Rows
 pub mod Sparse
+pub mod DenseSteps

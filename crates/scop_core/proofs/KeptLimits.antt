@@ -1,7 +1,8 @@
 -- Pieces without a refusal give a SCoP that keeps all limits.
-use Rattle.std.proofs.Common.{◌≡◌, ℕ, zero, suc, ◌+◌, ◌-◌, ◌/◌, ◌<◌, ◌≤◌, Bool, true, false, ◌&&◌, ◌||◌, nat_lt, List, [], ◌∷◌, ◌++◌, length, ℤ, refl, ap, sym, ◌∙◌, subst, arith, Option, Some, None, if◌then◌else◌}
+use Rattle.std.proofs.Common.{◌≡◌, ℕ, zero, suc, ◌+◌, ◌-◌, ◌/◌, ◌^◌, ◌<◌, ◌≤◌, Bool, true, false, ◌&&◌, ◌||◌, nat_lt, List, [], ◌∷◌, ◌++◌, length, ℤ, refl, ap, sym, ◌∙◌, subst, arith, Option, Some, None, if◌then◌else◌}
 use Rattle.std.specs.Prelude.{All, IfSome}
 use Rattle.std.proofs.lemmas.Bool.Decides.{nat_tests}
+use Rattle.std.proofs.lemmas.List.{length-map}
 use Rattle.std.proofs.lemmas.List.Elements.{All-cons, All-nil, All-head, All-tail, All-weaker}
 use Rattle.suite_base.specs.declared.refusals.Refusal.TheVariants.{Limit, NotSolved}
 use Rattle.suite_base.specs.declared.refusals.Which.TheVariants.{Statements, Iterators, Parameters, Levels, Locals, Rows, Parts, Accesses, Subscripts, Arrays}
@@ -16,7 +17,7 @@ use Rattle.scop_core.specs.declared.raw_pieces.RawStatement.{RawStatement}
 use Rattle.scop_core.specs.declared.raw_pieces.ScopPieces.{ScopPieces}
 use Rattle.scop_core.specs.SolvedForm.{floors_from, levels_from, values_from, is_scattering}
 use Rattle.scop_core.specs.Assembly.{array_count, count_of, some_above, accesses_above, statement_above, has_many_parts, accesses_many, whole_limit, statement_limit, first_limit, is_one, is_solved, the_part, first_unsolved, first_clash, iterators_of, default_names, body_from, solved_accesses, solved_statement, solved_statements, early_refusal_of, scop_of, HasNames, HasShapes}
-use Rattle.scop_core.specs.ScopData.{ScopData, arrays_of}
+use Rattle.scop_core.specs.ScopData.{ScopData, arrays_of, betas_in}
 use Rattle.scop_core.specs.Printable.{IsPrintable}
 use Rattle.scop_core.specs.Validity.{IsValid, IsAssembled}
 use Rattle.scop_core.specs.KeptLimits.{StatementKeepsLimits, KeepsLimits}
@@ -144,3 +145,10 @@ pub keeps_limits : (S : ScopData) → IsValid S → KeepsLimits S
 keeps_limits S v =
     let early = neither (early_refusal_of v.assembled.pieces) (first_clash 1 [] (solved_statements 1 v.assembled.pieces.statements)) v.assembled.accepted in
     subst KeepsLimits (sym v.assembled.is_theirs) (pieces_keep v.assembled.pieces early.0 v.assembled.printable)
+
+-- a valid SCoP has few beta vectors
+pub few_vectors : (S : ScopData) (statements : List Statement) (vectors : List (List ℤ)) → IsValid S → statements ≡ S.statements → vectors ≡ betas_in statements
+    → length vectors < 2 ^ 32
+few_vectors S statements vectors v e b =
+    let few = (keeps_limits S v).statements in
+    let count : length vectors ≡ length S.statements = ap length b ∙ (length-map statements (λ s. s.schedule.betas) ∙ ap length e) in omega arith

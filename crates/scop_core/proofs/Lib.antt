@@ -23,5 +23,6 @@ pub mod ReadBackPieces
 pub mod ReadBackRows
 pub mod ReadBackSolved
 mod SolvedChecks
+pub mod Samples
 mod LayoutChecks
 mod Checks

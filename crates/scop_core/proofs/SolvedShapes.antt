@@ -11,7 +11,7 @@ use Rattle.relation_core.specs.declared.part_rows.PartRow.{PartRow}
 use Rattle.std.proofs.lemmas.Int.{ints}
 use Rattle.scop_core.specs.declared.affines.Affine.{Affine}
 use Rattle.scop_core.specs.SolvedRows.{PairFits}
-use Rattle.scop_core.specs.SolvedForm.{each_below, cleared, is_pair, local_column, affine_of, floor_at, size_at, has_floor, low_row_of, high_row_of, is_scattering, is_access}
+use Rattle.scop_core.specs.SolvedForm.{each_below, cleared, is_pair, local_column, affine_of, floor_at, size_at, has_floor, has_output, low_row_of, high_row_of, is_scattering, is_access}
 
 pub both : (a b : Bool) → (a && b) ≡ true → (a ≡ true) × (b ≡ true)
 both true b h = (refl, h)
@@ -36,11 +36,17 @@ at_least_from a b h = grind (arith, nat_tests)
 pub scattering_odd : (part : System) → is_scattering part ≡ true → part.shape.outputs % 2 ≡ 1
 scattering_odd part h = equal_from _ _ (both _ _ (both _ _ (both _ _ (both _ _ h).0).0).0).0
 
+pub scattering_outputs : (part : System) → is_scattering part ≡ true → each_below (has_output part) part.shape.outputs ≡ true
+scattering_outputs part h = (both _ _ (both _ _ (both _ _ h).0).0).1
+
 pub scattering_floors : (part : System) → is_scattering part ≡ true → each_below (has_floor part) part.shape.locals ≡ true
 scattering_floors part h = (both _ _ (both _ _ h).0).1
 
 pub access_locals : (part : System) → is_access part ≡ true → part.shape.locals ≡ 0
 access_locals part h = equal_from _ _ (both _ _ (both _ _ (both _ _ (both _ _ (both _ _ h).0).0).0).0).0
+
+pub access_given : (part : System) → is_access part ≡ true → each_below (has_output part) part.shape.outputs ≡ true
+access_given part h = (both _ _ (both _ _ h).0).1
 
 pub access_outputs : (part : System) → is_access part ≡ true → 1 ≤ part.shape.outputs
 access_outputs part h = at_least_from _ _ (both _ _ (both _ _ (both _ _ (both _ _ (both _ _ h).0).0).0).0).1

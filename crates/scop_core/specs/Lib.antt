@@ -3,7 +3,6 @@ pub mod KeptLimits
 pub mod Layouts
 pub mod Meaning
 pub mod Memory
-pub mod OneLoops
 pub mod Order
 pub mod Printable
 pub mod ReadBack

@@ -1,5 +1,5 @@
 -- A SCoP as data: what contracts see of a Scop.
-use Rattle.std.specs.Prelude.{ℤ, ℕ, List, [], ◌∷◌, ◌++◌, Option, None, Some, if◌then◌else◌}
+use Rattle.std.specs.Prelude.{ℤ, ℕ, List, [], ◌∷◌, ◌++◌, Option, None, Some, map, if◌then◌else◌}
 use Rattle.std.specs.Str.{bytes_eq}
 use Rattle.relation_core.specs.Systems.{System}
 use Rattle.scop_core.specs.declared.statements.Extension.{Extension}
@@ -18,6 +18,10 @@ pub record ScopData : Type 0 where
 -- the arrays; none where they are not present
 abbrev pub arrays_of : ScopData → List (ℤ × List ℕ)
 arrays_of scop = elim scop.arrays [ None ↦ [] | Some arrays ↦ arrays ]
+
+-- the beta vectors of the statements
+abbrev pub betas_in : List Statement → List (List ℤ)
+betas_in statements = map (λ statement. statement.schedule.betas) statements
 
 -- the extensions of another name
 abbrev pub others : List ℕ → List Extension → List Extension

@@ -140,7 +140,7 @@ fn schedule_from(alloc: Global, relation: &Relation) -> Result<Schedule, NoMemor
 {
     match relation.parts() {
         [part] => solved_schedule(alloc, part),
-        _ => Err(NoMemory),
+        _ => unreachable!(),
     }
 }
 
@@ -152,7 +152,7 @@ fn access_from(alloc: Global, access: &(AccessKind, Relation)) -> Result<Access,
 {
     match access.1.parts() {
         [part] => solved_access(alloc, access.0, part),
-        _ => Err(NoMemory),
+        _ => unreachable!(),
     }
 }
 

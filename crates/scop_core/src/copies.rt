@@ -2,7 +2,7 @@
 
 ghost use Rattle.std.specs.Prelude.{◌≡◌, [], ◌∷◌, ◌++◌, IfOk};
 ghost use Rattle.std.specs.Str.{bytes_eq};
-ghost use Rattle.scop_core.specs.ScopData.{others};
+ghost use Rattle.scop_core.specs.ScopData.{betas_in, others};
 
 use crate::accesses::Access;
 use crate::affines::Affine;
@@ -197,6 +197,17 @@ pub fn copied_statements(alloc: Global, items: &[Statement]) -> Result<List<Stat
     let mut made = List::new(alloc);
     for item in items {
         made.push(copied_statement(alloc, item)?)?;
+    }
+    Ok(made)
+}
+
+/// The beta vectors of statements.
+pub fn beta_vectors(alloc: Global, items: &[Statement]) -> Result<List<List<Coeff>>, NoMemory>
+    ensures { IfOk result (λ made. made ≡ betas_in items.now) }
+{
+    let mut made = List::new(alloc);
+    for item in items {
+        made.push(copied_coeffs(alloc, item.schedule.betas.as_slice())?)?;
     }
     Ok(made)
 }

@@ -28,3 +28,6 @@ pub use raw_pieces::{RawStatement, ScopPieces};
 pub use schedules::{Floor, Schedule};
 pub use scops::Scop;
 pub use statements::{Body, Extension, Statement};
+
+#[cfg(test)]
+mod tests;

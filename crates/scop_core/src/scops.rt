@@ -2,22 +2,24 @@
 
 ghost use Rattle.std.specs.Prelude.{◌≡◌, ◌<◌, length, ◌≤◌, slice_get, None, true, All, MatchOption, IsSomeAnd, OnSome, OnOk, IfOk, IfErr};
 ghost use Rattle.std.specs.Option.{option_copied};
+ghost use Rattle.row_core.specs.Dense.{dense_of};
 ghost use Rattle.scop_core.specs.Assembly.{first_unsolved, solved_statements, early_refusal_of, refusal_of, scop_of, HasCause, HasShapes};
 ghost use Rattle.scop_core.specs.Printable.{IsPrintable, arrays_name, is_kept};
-ghost use Rattle.scop_core.specs.ScopData.{arrays_of, extended};
+ghost use Rattle.scop_core.specs.ScopData.{arrays_of, betas_in, extended};
 ghost use Rattle.scop_core.specs.Validity.{HasRelations, IsValid};
 
 use crate::array_tables::{ArrayTable, copied_table, table_of};
 use crate::assembling::{statements_from, unsolved_statement};
 use crate::clashes::statements_clash;
 use crate::copies::{
-    copied_extensions, copied_names, copied_part, copied_statements, copied_text, extensions_with,
+    beta_vectors, copied_extensions, copied_names, copied_part, copied_statements, copied_text,
+    extensions_with,
 };
 use crate::limits::{pieces_limit, statements_limit};
 use crate::raw_pieces::ScopPieces;
 use crate::statements::{Extension, Statement};
 use relation_core::Part;
-use row_core::Coeff;
+use row_core::{Coeff, dense_vectors};
 use std::alloc::Global;
 use std::marker::Model;
 use suite_base::{Fail, List, NoMemory, Refusal, Text};
@@ -107,6 +109,15 @@ impl Scop {
                 },
             },
         }
+    }
+
+    /// The beta vectors of the statements, numbered densely: each beta becomes the number of distinct
+    /// lesser ones at its place, among the statements whose vectors agree with its own before that place.
+    pub fn dense_betas(&self, alloc: Global) -> Result<List<List<u32>>, NoMemory>
+        ensures { IfOk result (λ vectors. vectors ≡ dense_of (betas_in self.now.statements)) }
+    {
+        let vectors = beta_vectors(alloc, self.statements.as_slice())?;
+        dense_vectors(alloc, &vectors)
     }
 
     /// An equal SCoP.

@@ -59,7 +59,8 @@ fn is_constant_value(value: &Affine) -> bool
 
 /// Whether the output at place `2 k` is a constant.
 fn has_constant(alloc: Global, part: &Part, k: usize) -> Result<bool, NoMemory>
-    requires { 2 * k < part.now.shape.outputs }
+    requires place { 2 * k < part.now.shape.outputs }
+    requires given { has_output part.now (2 * k) ≡ true }
     ensures { IfOk result (λ answer. answer ≡ has_beta part.now k) }
 {
     let _limits = part.shape();
@@ -94,7 +95,8 @@ fn has_floors(part: &Part) -> bool
 /// Whether each of the first `n` outputs at even places is a constant.
 #[tactic(auto, using(crate::proofs::SolvedForms::each_more))]
 fn has_constants(alloc: Global, part: &Part, n: usize) -> Result<bool, NoMemory>
-    requires { 2 * n ≤ part.now.shape.outputs + 1 }
+    requires places { 2 * n ≤ part.now.shape.outputs + 1 }
+    requires given { each_below (has_output part.now) part.now.shape.outputs ≡ true }
     ensures { IfOk result (λ answer. answer ≡ each_below (has_beta part.now) n) }
 {
     let mut good = true;
@@ -120,7 +122,8 @@ pub fn solves_schedule(alloc: Global, part: &Part) -> Result<bool, NoMemory>
 
 /// Appends the value of the output at place `2 k + 1`.
 fn push_level(alloc: Global, part: &Part, k: usize, made: &mut List<Affine>) -> Result<(), NoMemory>
-    requires { 2 * k + 1 < part.now.shape.outputs }
+    requires place { 2 * k + 1 < part.now.shape.outputs }
+    requires given { has_output part.now (2 * k + 1) ≡ true }
     ensures made { OnOk result (made.new ≡ made.old ++ value_at part.now (2 * k + 1) ∷ []) }
     ensures sizes { OnOk result (All (HasSizes part.now.shape.inputs part.now.shape.locals part.now.shape.parameters) made.old → All (HasSizes part.now.shape.inputs part.now.shape.locals part.now.shape.parameters) made.new) }
 {
@@ -132,7 +135,8 @@ fn push_level(alloc: Global, part: &Part, k: usize, made: &mut List<Affine>) -> 
 
 /// The values of the outputs at places `2 k + 1`, for `n` numbers from 0 on.
 fn levels_of(alloc: Global, part: &Part, n: usize) -> Result<List<Affine>, NoMemory>
-    requires { 2 * n < part.now.shape.outputs + 1 }
+    requires places { 2 * n < part.now.shape.outputs + 1 }
+    requires given { each_below (has_output part.now) part.now.shape.outputs ≡ true }
     ensures levels { IfOk result (λ levels. levels ≡ levels_from part.now 0 n) }
     ensures sizes { IfOk result (All (HasSizes part.now.shape.inputs part.now.shape.locals part.now.shape.parameters)) }
     ensures count { IfOk result (λ levels. length levels ≡ n) }
@@ -146,7 +150,8 @@ fn levels_of(alloc: Global, part: &Part, n: usize) -> Result<List<Affine>, NoMem
 
 /// Appends the constant of the output at place `2 k`.
 fn push_beta(alloc: Global, part: &Part, k: usize, made: &mut List<Coeff>) -> Result<(), NoMemory>
-    requires { 2 * k < part.now.shape.outputs }
+    requires place { 2 * k < part.now.shape.outputs }
+    requires given { has_output part.now (2 * k) ≡ true }
     ensures { OnOk result (made.new ≡ made.old ++ (value_at part.now (2 * k)).constant ∷ []) }
 {
     let _limits = part.shape();
@@ -157,7 +162,8 @@ fn push_beta(alloc: Global, part: &Part, k: usize, made: &mut List<Coeff>) -> Re
 
 /// The constants of the outputs at places `2 k`, for `n` numbers from 0 on.
 fn betas_of(alloc: Global, part: &Part, n: usize) -> Result<List<Coeff>, NoMemory>
-    requires { 2 * n ≤ part.now.shape.outputs + 1 }
+    requires places { 2 * n ≤ part.now.shape.outputs + 1 }
+    requires given { each_below (has_output part.now) part.now.shape.outputs ≡ true }
     ensures betas { IfOk result (λ betas. betas ≡ betas_from part.now 0 n) }
     ensures count { IfOk result (λ betas. length betas ≡ n) }
 {
@@ -202,6 +208,7 @@ fn floors_of(alloc: Global, part: &Part, n: usize) -> Result<List<Floor>, NoMemo
 /// The schedule that a part is whose outputs are odd and whose floors have their rows.
 fn schedule_with(alloc: Global, part: &Part) -> Result<Schedule, NoMemory>
     requires odd { part.now.shape.outputs % 2 ≡ 1 }
+    requires given { each_below (has_output part.now) part.now.shape.outputs ≡ true }
     requires floors { each_below (has_floor part.now) part.now.shape.locals ≡ true }
     ensures schedule { IfOk result (λ schedule. schedule ≡ schedule_of part.now) }
     ensures printable { IfOk result (HasRelation part.now.shape.inputs part.now.shape.parameters) }
@@ -225,7 +232,8 @@ pub fn solved_schedule(alloc: Global, part: &Part) -> Result<Schedule, NoMemory>
 
 /// Whether the first output is a constant of at least 1.
 fn has_identifier(alloc: Global, part: &Part) -> Result<bool, NoMemory>
-    requires { 1 ≤ part.now.shape.outputs }
+    requires some { 1 ≤ part.now.shape.outputs }
+    requires given { each_below (has_output part.now) part.now.shape.outputs ≡ true }
     ensures { IfOk result (λ answer. answer ≡ (is_constant (value_at part.now 0) && int_le (pos 1) (value_at part.now 0).constant)) }
 {
     let value = value_of(alloc, part, 0)?;
@@ -253,7 +261,8 @@ fn push_subscript(
     k: usize,
     made: &mut List<Affine>,
 ) -> Result<(), NoMemory>
-    requires { k + 1 < part.now.shape.outputs }
+    requires place { k + 1 < part.now.shape.outputs }
+    requires given { has_output part.now (k + 1) ≡ true }
     ensures made { OnOk result (made.new ≡ made.old ++ value_at part.now (k + 1) ∷ []) }
     ensures sizes { OnOk result (All (HasSizes part.now.shape.inputs part.now.shape.locals part.now.shape.parameters) made.old → All (HasSizes part.now.shape.inputs part.now.shape.locals part.now.shape.parameters) made.new) }
 {
@@ -265,7 +274,8 @@ fn push_subscript(
 
 /// The values of `n` outputs behind the first.
 fn subscripts_of(alloc: Global, part: &Part, n: usize) -> Result<List<Affine>, NoMemory>
-    requires { n < part.now.shape.outputs }
+    requires places { n < part.now.shape.outputs }
+    requires given { each_below (has_output part.now) part.now.shape.outputs ≡ true }
     ensures subscripts { IfOk result (λ values. values ≡ values_from part.now 1 n) }
     ensures sizes { IfOk result (All (HasSizes part.now.shape.inputs part.now.shape.locals part.now.shape.parameters)) }
     ensures count { IfOk result (λ values. length values ≡ n) }
@@ -280,6 +290,7 @@ fn subscripts_of(alloc: Global, part: &Part, n: usize) -> Result<List<Affine>, N
 /// The access of this kind that a part without locals and with some output is.
 fn access_with(alloc: Global, kind: AccessKind, part: &Part) -> Result<Access, NoMemory>
     requires outputs { 1 ≤ part.now.shape.outputs }
+    requires given { each_below (has_output part.now) part.now.shape.outputs ≡ true }
     requires locals { part.now.shape.locals ≡ 0 }
     ensures access { IfOk result (λ access. access ≡ access_of kind part.now) }
     ensures printable { IfOk result (HasAccessRelation part.now.shape.inputs part.now.shape.parameters) }

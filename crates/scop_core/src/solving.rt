@@ -1,9 +1,9 @@
 //! The rows of a part in solved form: how many give an output or a floor, and what they give.
 
-ghost use Rattle.std.specs.Prelude.{◌≡◌, ◌==◌, ◌<◌, ◌≤◌, ◌+◌, ◌-◌, ◌*◌, ◌/◌, ◌%◌, pos, length, count_by, true, MatchOption, IfOk, IfSome, neg_ℤ, unsigned_abs, ◌^◌};
+ghost use Rattle.std.specs.Prelude.{◌≡◌, ◌==◌, ◌<◌, ◌≤◌, ◌+◌, ◌-◌, ◌*◌, ◌/◌, ◌%◌, pos, length, count_by, true, MatchOption, IfOk, neg_ℤ, unsigned_abs, ◌^◌};
 ghost use Rattle.row_core.specs.Rows.{entry};
 ghost use Rattle.relation_core.specs.Systems.{columns, width, row_at, HasLimits};
-ghost use Rattle.scop_core.specs.SolvedForm.{is_output_row, is_low_row, is_high_row, are_formed, are_equalities, output_row, low_row_of, high_row_of, value_at, floor_at, affine_of, cleared, has_floor, local_column};
+ghost use Rattle.scop_core.specs.SolvedForm.{is_output_row, is_low_row, is_high_row, are_formed, are_equalities, output_row, low_row_of, high_row_of, value_at, floor_at, affine_of, cleared, has_floor, has_output, local_column};
 ghost use Rattle.scop_core.specs.SolvedRows.{HasSizes, PairFits};
 
 use crate::affines::Affine;
@@ -101,7 +101,7 @@ pub fn high_rows(part: &Part, k: usize) -> usize
 /// The first row that gives the output at place `k`.
 fn find_output(part: &Part, k: usize) -> Option<&PartRow>
     requires { k < width part.now.shape }
-    ensures { IfSome result (λ row. (row.now ≡ output_row part.now k) × (length row.now.entries ≡ width part.now.shape)) }
+    ensures { MatchOption result (count_by (is_output_row k) part.now.rows ≡ 0) (λ row. (row.now ≡ output_row part.now k) × (length row.now.entries ≡ width part.now.shape)) }
 {
     for i in 0..part.row_count() {
         let row = row_of(part, i);
@@ -161,14 +161,15 @@ fn affine_from(alloc: Global, shape: Shape, row: &[Coeff]) -> Result<Affine, NoM
     )
 }
 
-/// The value of the output at place `k`, where some row gives it.
+/// The value of the output at place `k`, which one row gives.
 pub fn value_of(alloc: Global, part: &Part, k: usize) -> Result<Affine, NoMemory>
-    requires { k < part.now.shape.outputs }
+    requires place { k < part.now.shape.outputs }
+    requires given { has_output part.now k ≡ true }
     ensures value { IfOk result (λ value. value ≡ value_at part.now k) }
     ensures sizes { IfOk result (HasSizes part.now.shape.inputs part.now.shape.locals part.now.shape.parameters) }
 {
     match find_output(part, k) {
-        None => Err(NoMemory),
+        None => unreachable!(),
         Some(row) => {
             if 0 < row.entries.get(k).value() {
                 let opposite = negated(alloc, &row.entries)?;
@@ -260,6 +261,6 @@ pub fn floor_of(alloc: Global, part: &Part, k: usize) -> Result<Floor, NoMemory>
 {
     match (find_low(part, k), find_high(part, k)) {
         (Some(low), Some(high)) => floor_of_rows(alloc, part, k, low, high),
-        _ => Err(NoMemory),
+        _ => unreachable!(),
     }
 }

@@ -1,0 +1,21 @@
+pub mod GrammarLines
+pub mod GrammarWords
+pub mod GrammarParts
+pub mod GrammarRelations
+pub mod GrammarText
+pub mod GrammarBodies
+pub mod GrammarArrays
+pub mod GrammarExtensions
+pub mod GrammarStatements
+pub mod GrammarWhole
+pub mod GrammarConditions
+pub mod GrammarProper
+mod Checks
+pub mod LineExtents
+pub mod ReadingLemmas
+pub mod WordColumns
+pub mod NumberRuns
+pub mod Turns
+pub mod LastBytes
+pub mod NameLines
+pub mod KeptLines

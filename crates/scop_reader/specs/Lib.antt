@@ -1,5 +1,7 @@
 pub mod Documents
+pub mod Headers
 pub mod Lines
 pub mod Reading
+pub mod Rows
 pub mod Rules
 pub mod Texts

@@ -1,5 +1,5 @@
 -- Lines of a text that are still to come, and the words of a line with their columns.
-use Rattle.std.specs.Prelude.{ℕ, ◌+◌, Bool, true, false, List, [], ◌∷◌, if◌then◌else◌}
+use Rattle.std.specs.Prelude.{◌≡◌, ℕ, ◌+◌, Bool, true, false, List, [], ◌∷◌, length, max, Option, Some, None, if◌then◌else◌}
 use Rattle.suite_base.specs.Lines.{is_blank}
 use Rattle.suite_base.specs.Words.{content, begins_word, without_comment}
 
@@ -17,6 +17,17 @@ pub record Line : Type 0 where
 pub record Word : Type 0 where
   pub column : ℕ
   pub bytes : List ℕ
+
+-- the bytes that lines take at the least: an empty line has a newline
+abbrev pub extent : List (List ℕ) → ℕ
+extent [] = 0
+extent (line ∷ lines) = max 1 (length line) + extent lines
+
+-- the next line was taken, if there was one
+abbrev pub TakesLine : Rest → Option Line → Rest → Type 0
+TakesLine old None new = (old.lines ≡ []) × (new ≡ old)
+TakesLine old (Some line) new =
+    (old ≡ record { number = line.number; lines = line.bytes ∷ new.lines }) × (new ≡ record { number = line.number + 1; lines = new.lines })
 
 abbrev pub is_empty : List ℕ → Bool
 is_empty [] = true

@@ -113,6 +113,11 @@ abbrev pub of_result : {A : Type 0} → Result A Refusal → Reader A
 of_result (Ok a) = pure a
 of_result (Err e) = refuse e
 
+-- a function of what was read
+abbrev pub mapped : {A B : Type 0} → (A → B) → Result A Refusal → Result B Refusal
+mapped f (Ok a) = Ok (f a)
+mapped f (Err e) = Err e
+
 -- at least 0; at least 1; any number
 abbrev pub is_count : ℤ → Bool
 is_count n = int_le (pos 0) n
@@ -129,3 +134,15 @@ abbrev pub Reads : {A : Type 0} → Outcome A → Result A Fail → Rest → Typ
 Reads outcome (Ok a) now = outcome ≡ Ok (a, now)
 Reads outcome (Err fail.Memory) now = Unit {0}
 Reads outcome (Err (fail.Refused refusal)) now = outcome ≡ Err refusal
+
+-- the same for a function that puts what it reads in a place of the caller's
+abbrev pub ReadsTo : {A : Type 0} → Outcome A → Result (Unit {0}) Fail → A → Rest → Type 0
+ReadsTo outcome (Ok _) value now = outcome ≡ Ok (value, now)
+ReadsTo outcome (Err fail.Memory) value now = Unit {0}
+ReadsTo outcome (Err (fail.Refused refusal)) value now = outcome ≡ Err refusal
+
+-- the same for a function that takes no line
+abbrev pub Gives : {A : Type 0} → Result A Refusal → Result A Fail → Type 0
+Gives wanted (Ok a) = wanted ≡ Ok a
+Gives wanted (Err fail.Memory) = Unit {0}
+Gives wanted (Err (fail.Refused refusal)) = wanted ≡ Err refusal

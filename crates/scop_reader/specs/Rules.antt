@@ -112,12 +112,18 @@ header_limit role k header =
 abbrev pub is_shaped : Role → Header → Bool
 is_shaped role header = (header.columns == columns header.shape + 2) && suits role header.shape
 
+-- a line of six numbers
+unfoldable pub counts_line : Reader (Line × Header)
+counts_line = do
+  found ← number_line 6 is_count
+  pure (found.0, header_of (naturals found.1))
+
 unfoldable pub header_line : Role → ℕ → Reader Header
 header_line role k = do
-  found ← number_line 6 is_count
-  check (is_shaped role (header_of (naturals found.1))) (BadScop found.0.number)
-  unless (header_limit role k (header_of (naturals found.1)))
-  pure (header_of (naturals found.1))
+  found ← counts_line
+  check (is_shaped role found.1) (BadScop found.0.number)
+  unless (header_limit role k found.1)
+  pure found.1
 
 -- the first number of a row: 0 for an equality, 1 for an inequality
 abbrev pub is_kind : ℤ → Bool
@@ -307,6 +313,9 @@ pub record Extensions (A : Type 0) : Type 0 where
   pub special : Option A
   pub others : List Extension
 
+abbrev pub extensions_of : {A : Type 0} → Option A → List Extension → Extensions A
+extensions_of special others = record { special = special; others = others }
+
 abbrev pub is_none : {A : Type 0} → Option A → Bool
 is_none None = true
 is_none (Some a) = false
@@ -450,14 +459,20 @@ no_second rest = elim (from_open rest.number rest.lines).lines [ [] ↦ None | l
 unfoldable pub no_more : Reader (Unit {0})
 no_more = λ rest. unless (no_second rest) rest
 
+-- a line of one word
+unfoldable pub one_word : Reader (List ℕ)
+one_word = do
+  found ← word_line 1
+  pure (first_of found)
+
 unfoldable pub scop : Reader ScopPieces
 scop = do
   opening
-  language ← word_line 1
+  language ← one_word
   context ← context
   names ← parameters context.shape.parameters
   count ← statement_count
   statements ← statements_from context.shape.parameters 1 count []
   globals ← globals
   no_more
-  pure (record { language = first_of language; context = context; parameters = names; statements = statements; arrays = globals.special; extensions = globals.others })
+  pure (record { language = language; context = context; parameters = names; statements = statements; arrays = globals.special; extensions = globals.others })

@@ -1,8 +1,21 @@
 //! OpenScop text read: the pieces of a SCoP, or the first refusal of the text.
 #![tactic(auto)]
 
+mod array_rules;
+mod bodies;
+mod cursors;
+mod extension_names;
+mod headers;
+mod kept_lines;
+mod line_rules;
+mod line_words;
+mod number_words;
+mod part_rules;
+mod relation_rules;
 mod reading;
 mod roles;
+mod statement_rules;
+mod text_lines;
 
 pub use reading::read_scop;
 pub use roles::Role;

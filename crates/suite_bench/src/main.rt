@@ -1,51 +1,47 @@
 //! Times of the certificate check and of the elimination, on standard error. Standard output says
-//! only that the run ended, so that it is always the same.
+//! only that the runs ended, so that it is always the same.
 #![tactic(auto)]
 
+mod dice;
+mod nests;
+mod rows;
+mod runs;
 mod systems;
+mod times;
 
-use farkas_cert::check;
+use nests::product;
+use runs::{level_times, nest_totals};
 use std::process::Abort;
 use std::test::Fail;
-use std::time::Instant;
-use systems::{dense_system, ones, random_system};
+use times::{check_time, reduction_time};
 
-const CHECKS: usize = 10_000;
-
-const SYSTEMS: u64 = 1_000;
+const ROUNDS: u32 = 1_000;
 
 fn main(rt: HostRuntime) -> Result<(), Fail> {
-    let system = dense_system(rt.alloc())?;
-    let certificate = ones(rt.alloc(), 256)?;
-    let start = Instant::now(&rt)?;
-    let mut light: u32 = 0;
-    for _ in 0..CHECKS {
-        if check(&system, &certificate).is_ok() {
-            light = light.saturating_add(1);
-        }
-    }
-    let spent = start.elapsed(&rt)?.as_nanos();
-    eprintln!(rt;
-        "check of 256 rows and 62 columns: {} ns each, {light} within the range",
-        spent / 10_000
-    )?;
+    let (spent, light) = check_time(&rt, rt.alloc())?;
+    eprintln!(rt; "check of 256 rows and 62 columns: {spent} ns, {light} of 1,000 in the range")?;
 
-    let mut points: u32 = 0;
-    let mut empty: u32 = 0;
-    let mut limits: u32 = 0;
-    let start = Instant::now(&rt)?;
-    for seed in 0..SYSTEMS {
-        let system = random_system(rt.alloc(), seed)?;
-        match elim_core::decide(rt.alloc(), &system) {
-            Ok(elim_core::Verdict::HasPoint) => points = points.saturating_add(1),
-            Ok(elim_core::Verdict::Empty(_)) => empty = empty.saturating_add(1),
-            Err(_) => limits = limits.saturating_add(1),
+    let base = product(rt.alloc())?;
+    let spent = reduction_time(&rt, rt.alloc(), &base, ROUNDS)?;
+    eprintln!(rt; "matrix product: reduce {spent} ns")?;
+    for pair in ["WAR 1 4", "RAW 4 1", "WAW 4 4"] {
+        for level in 0..3 {
+            let t = level_times(&rt, rt.alloc(), &base, level, ROUNDS)?;
+            eprintln!(rt;
+                "{pair} level {}: decide {} ns, decide_by {} ns, decide_with {} ns, {}",
+                level + 1, t.dense, t.sparse, t.shared, t.end.words()
+            )?;
         }
     }
-    let spent = start.elapsed(&rt)?.as_nanos();
+
+    let t = nest_totals(&rt, rt.alloc(), 1_000)?;
     eprintln!(rt;
-        "decide of 12 to 40 rows and 8 to 16 columns: {} ns each, {points} with a point, {empty} empty, {limits} past a limit",
-        spent / 1_000
+        "1,000 nests: decide {} us, decide_by {} us, reduce {} us, decide_with {} us",
+        t.dense / 1_000, t.sparse / 1_000, t.reduction / 1_000, t.shared / 1_000
+    )?;
+    eprintln!(rt;
+        "1,000 nests: {} with a point, {} empty, {} past a limit",
+        t.points, t.empty, t.limits
     )?;
     println!(rt; "the runs ended")?;
     Ok(())

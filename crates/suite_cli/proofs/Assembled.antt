@@ -7,12 +7,11 @@ use Rattle.relation_core.specs.Systems.{System}
 use Rattle.scop_core.specs.declared.accesses.AccessKind.{AccessKind}
 use Rattle.scop_core.specs.declared.raw_pieces.RawStatement.{RawStatement}
 use Rattle.scop_core.specs.declared.raw_pieces.ScopPieces.{ScopPieces}
-use Rattle.scop_core.specs.OneLoops.{one_loop_access, one_loop_schedule}
 use Rattle.scop_core.specs.SolvedRows.{access_part, schedule_part}
 use Rattle.scop_core.specs.ScopData.{ScopData}
 use Rattle.scop_core.specs.Assembly.{HasInputs, HasShapes, refusal_of, scop_of}
 use Rattle.scop_core.specs.Printable.{IsDomainPart, IsPrintable, IsPrintableStatement, has_part, is_body}
-use Rattle.clan_extract.specs.Translation.{OneLoop, one_loop_scop}
+use Rattle.clan_extract.specs.Translation.{OneLoop, one_loop_access, one_loop_schedule, one_loop_scop}
 use Rattle.suite_cli.specs.FirstForm.{AreWords, LoopWords, loop_of}
 use Rattle.suite_cli.specs.Pieces.{domain_from, pieces_of, raw_statement, write_of}
 use Rattle.suite_cli.proofs.Printables.{assignment_is_line, both_hold, free_ends_none, free_is_name}

@@ -6,9 +6,8 @@ use Rattle.scop_core.specs.declared.accesses.AccessKind.{AccessKind}
 use Rattle.scop_core.specs.declared.accesses.AccessKind.TheVariants.{Write}
 use Rattle.scop_core.specs.declared.raw_pieces.RawStatement.{RawStatement}
 use Rattle.scop_core.specs.declared.raw_pieces.ScopPieces.{ScopPieces}
-use Rattle.scop_core.specs.OneLoops.{one_loop_access, one_loop_schedule}
 use Rattle.scop_core.specs.SolvedRows.{access_part, schedule_part}
-use Rattle.clan_extract.specs.Translation.{OneLoop}
+use Rattle.clan_extract.specs.Translation.{OneLoop, one_loop_access, one_loop_schedule}
 
 -- from this start up to the one parameter, which it does not reach
 abbrev pub domain_from : ℤ → System

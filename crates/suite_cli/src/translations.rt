@@ -2,8 +2,7 @@
 
 ghost use Rattle.std.specs.Prelude.{◌≡◌, ℕ, pos, negsuc, neg_ℤ, true, Some, [], ◌∷◌, ◌++◌, IfOk};
 ghost use Rattle.suite_base.specs.Numbers.{digits_after};
-ghost use Rattle.clan_extract.specs.Translation.{one_loop_domain, one_loop_scop};
-ghost use Rattle.scop_core.specs.OneLoops.{one_loop_access, one_loop_schedule, the_iterator};
+ghost use Rattle.clan_extract.specs.Translation.{one_loop_access, one_loop_domain, one_loop_schedule, one_loop_scop, the_iterator};
 ghost use Rattle.scop_core.specs.SolvedRows.{access_part, schedule_part};
 ghost use Rattle.suite_cli.specs.FirstForm as spec;
 ghost use Rattle.suite_cli.specs.Names.{is_short_number};
@@ -146,19 +145,13 @@ fn loop_domain(alloc: Global, start: Coeff) -> Result<Relation, NoMemory>
     one_part(alloc, part)
 }
 
-/// The value of the one iterator.
-fn iterator_value(alloc: Global) -> Result<Affine, NoMemory>
-    ensures { IfOk result (λ value. value ≡ the_iterator) }
-{
-    Affine::new(alloc, &[Coeff::ONE], &[], &[Coeff::ZERO], Coeff::ZERO)
-}
-
 /// The list of the one iterator's value.
 fn iterator_values(alloc: Global) -> Result<List<Affine>, NoMemory>
     ensures { IfOk result (λ values. values ≡ the_iterator ∷ []) }
 {
+    let iterator = Affine::new(alloc, &[Coeff::ONE], &[], &[Coeff::ZERO], Coeff::ZERO)?;
     let mut values = List::new(alloc);
-    values.push(iterator_value(alloc)?)?;
+    values.push(iterator)?;
     Ok(values)
 }
 

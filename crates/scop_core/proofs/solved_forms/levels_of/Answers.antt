@@ -1,5 +1,6 @@
-use Rattle.std.proofs.Common.{◌+◌, ◌-◌, arith}
-use Rattle.scop_core.specs.SolvedForm.{levels_from}
+use Rattle.std.proofs.Common.{◌+◌, ◌-◌, ◌*◌, arith}
+use Rattle.scop_core.specs.SolvedForm.{levels_from, has_output}
+use Rattle.scop_core.proofs.SolvedShapes.{each_at}
 use Rattle.scop_core.proofs.SolvedForms.{levels_more, more_one}
 use Rattle.scop_core.proofs.solved_forms.levels_of.Goals as goal
 
@@ -9,3 +10,6 @@ loop-k-preserved c = record {
   sizes = c.in_ok-push_level.ensures.sizes c.loop-k.invariant.sizes;
   count = more_one _ _ _ _ c.in_ok-push_level.ensures.made c.loop-k.invariant.count;
 }
+
+pub push_level-requires-clause-given : goal.push_level-requires-clause-given
+push_level-requires-clause-given c = each_at (has_output c.args.part.now) c.args.part.now.shape.outputs (2 * c.loop-k.k + 1) (omega arith) c.requires.given

@@ -1,5 +1,6 @@
-use Rattle.std.proofs.Common.{◌+◌, ◌-◌, arith}
-use Rattle.scop_core.specs.SolvedForm.{values_from}
+use Rattle.std.proofs.Common.{◌+◌, ◌-◌, ◌*◌, arith}
+use Rattle.scop_core.specs.SolvedForm.{values_from, has_output}
+use Rattle.scop_core.proofs.SolvedShapes.{each_at}
 use Rattle.scop_core.proofs.SolvedForms.{values_more, more_one}
 use Rattle.scop_core.proofs.solved_forms.subscripts_of.Goals as goal
 
@@ -9,3 +10,6 @@ loop-k-preserved c = record {
   sizes = c.in_ok-push_subscript.ensures.sizes c.loop-k.invariant.sizes;
   count = more_one _ _ _ _ c.in_ok-push_subscript.ensures.made c.loop-k.invariant.count;
 }
+
+pub push_subscript-requires-clause-given : goal.push_subscript-requires-clause-given
+push_subscript-requires-clause-given c = each_at (has_output c.args.part.now) c.args.part.now.shape.outputs (c.loop-k.k + 1) (omega arith) c.requires.given

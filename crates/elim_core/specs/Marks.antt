@@ -1,0 +1,15 @@
+-- A number that rows with equal coefficients have in common, by which others are told apart sooner.
+use Rattle.std.specs.Prelude.{ℕ, ◌+◌, ◌*◌, ◌%◌, ◌^◌, List, [], ◌∷◌, take, cond, int_lt, ℤ, pos, unsigned_abs}
+use Rattle.relation_core.specs.declared.part_rows.PartRow.{PartRow}
+
+-- a number and one coefficient more
+abbrev pub mixed : ℕ → ℤ → ℕ
+mixed m c = (m * cond (int_lt c (pos 0)) 37 31 + unsigned_abs c % 2 ^ 64) % 2 ^ 64
+
+abbrev pub mark_onto : ℕ → List ℤ → ℕ
+mark_onto m [] = m
+mark_onto m (c ∷ cells) = mark_onto (mixed m c) cells
+
+-- the mark of the coefficients of n variables
+abbrev pub mark : ℕ → PartRow → ℕ
+mark n w = mark_onto 0 (take n w.entries)

@@ -1,0 +1,75 @@
+//! The decision of a system whose rows begin with those of a reduced base.
+
+ghost use Rattle.std.specs.Prelude.{◌≡◌, ◌<◌, ◌≤◌, ◌+◌, ◌^◌, length, take, IfOk, IfErr};
+ghost use Rattle.relation_core.specs.Systems.{columns};
+ghost use Rattle.farkas_cert.specs.Certificates.{Valid};
+ghost use Rattle.elim_core.specs.Peaks.{peak, IsRight};
+ghost use Rattle.elim_core.specs.Reductions.{Settles};
+
+use crate::counts::{row_count, variable_count};
+use crate::decisions::decide_by;
+use crate::orders::column_order;
+use crate::phases::from_rows;
+use crate::reductions::Reduced;
+use crate::verdicts::{ElimFail, Verdict};
+use farkas_cert::{Certificate, check};
+use relation_core::Part;
+use row_core::Row;
+use std::alloc::Global;
+
+/// Decides `system` as `decide_by` does, but begins with the reduced rows of its first rows. The
+/// system has the base's shape, and its rows begin with the base's. Where this way passes 2^127 - 1
+/// or 16,384 rows, the stated elimination of the whole system is gone instead.
+pub fn decide_with<R: Row>(
+    alloc: Global,
+    shared: &Reduced<R>,
+    system: &Part,
+) -> Result<Verdict, ElimFail>
+    requires shape { system.now.shape ≡ shared.now.shape }
+    requires rows { take (length shared.now.rows) system.now.rows ≡ shared.now.rows }
+    ensures right { IfOk result (λ verdict. IsRight system.now verdict) }
+    ensures overflow { IfErr result (λ fail. fail ≡ ElimFail.Overflow → 2 ^ 127 ≤ (peak system.now).weight) }
+    ensures rows { IfErr result (λ fail. fail ≡ ElimFail.TooManyRows → 16384 < (peak system.now).rows) }
+{
+    match go_on(alloc, shared, system) {
+        Ok(None) => Ok(Verdict::HasPoint),
+        Ok(Some(certificate)) => accept::<R>(alloc, system, certificate),
+        Err(ElimFail::Memory) => Err(ElimFail::Memory),
+        Err(_) => decide_by::<R>(alloc, system),
+    }
+}
+
+// The verdict of a valid certificate, where its check is not too heavy.
+fn accept<R: Row>(
+    alloc: Global,
+    system: &Part,
+    certificate: Certificate,
+) -> Result<Verdict, ElimFail>
+    requires { Valid (columns system.now.shape) system.now.rows certificate }
+    ensures right { IfOk result (λ verdict. IsRight system.now verdict) }
+    ensures overflow { IfErr result (λ fail. fail ≡ ElimFail.Overflow → 2 ^ 127 ≤ (peak system.now).weight) }
+    ensures rows { IfErr result (λ fail. fail ≡ ElimFail.TooManyRows → 16384 < (peak system.now).rows) }
+{
+    match check(system, &certificate) {
+        Ok(_) => Ok(Verdict::Empty(certificate)),
+        Err(_) => decide_by::<R>(alloc, system),
+    }
+}
+
+// What the elimination finds that begins with the reduced rows.
+fn go_on<R: Row>(
+    alloc: Global,
+    shared: &Reduced<R>,
+    system: &Part,
+) -> Result<Option<Certificate>, ElimFail>
+    requires shape { system.now.shape ≡ shared.now.shape }
+    requires rows { take (length shared.now.rows) system.now.rows ≡ shared.now.rows }
+    ensures { IfOk result (λ found. Settles system.now found) }
+{
+    let n = variable_count(system);
+    let width = n + 1 + row_count(system);
+    let columns = column_order(alloc, system)?;
+    let rows = shared.join(alloc, system)?;
+    let most = rows.len();
+    from_rows(alloc, n, width, columns.as_slice(), most, rows)
+}

@@ -1,0 +1,30 @@
+//! The numbers of variables and rows of a system.
+
+ghost use Rattle.std.specs.Prelude.{◌≡◌, ◌<◌, ◌≤◌, ◌+◌, ◌^◌, length};
+ghost use Rattle.relation_core.specs.Systems.{columns};
+ghost use Rattle.elim_core.specs.Elimination.{started, Below};
+ghost use Rattle.elim_core.specs.RowLists.{AllRows, Wide};
+ghost use Rattle.elim_core.specs.Peaks.{column_order};
+
+use relation_core::Part;
+
+/// The number of variables.
+pub fn variable_count(system: &Part) -> usize
+    ensures value { result ≡ columns system.now.shape }
+    ensures range { result ≤ 262144 }
+    ensures order { Below (columns system.now.shape) (column_order system.now.shape) }
+{
+    let _limits = system.shape();
+    system.width() - 1
+}
+
+/// The number of rows, each of which has an entry for each variable and the constant.
+pub fn row_count(system: &Part) -> usize
+    ensures value { result ≡ length system.now.rows }
+    ensures range { result < 2 ^ 63 }
+    ensures wide { AllRows (Wide (columns system.now.shape + 1)) system.now.rows }
+    ensures started { AllRows (Wide (columns system.now.shape + 1 + length system.now.rows)) (started system.now.rows) }
+{
+    let _form = system.row_count();
+    system.rows().len()
+}

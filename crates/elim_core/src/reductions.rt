@@ -1,0 +1,157 @@
+//! The reduction of rows that several systems share: their equalities are substituted once.
+
+ghost use Rattle.std.specs.Prelude.{◌≡◌, ◌<◌, ◌≤◌, ◌+◌, length, map, take, IfOk};
+ghost use Rattle.relation_core.specs.Systems.{columns};
+ghost use Rattle.elim_core.specs.RowLists.{AllRows, Wide};
+ghost use Rattle.elim_core.specs.Reductions.{IsReduction, Reduces, Relieved, widened};
+
+use crate::counts::{row_count, variable_count};
+use crate::starts::{start, start_from};
+use crate::substitutions::{substitute_copies, take_equality};
+use crate::tidying::{find_contradiction, tidy};
+use crate::verdicts::ElimFail;
+use crate::working_rows::{WorkingRow, is_constant, last_variable};
+use relation_core::Part;
+use row_core::Row;
+use std::alloc::Global;
+use std::marker::Model;
+use suite_base::NoMemory;
+
+/// A base whose equalities are substituted, so that the systems whose rows begin with the base's
+/// need not do it again. Contracts see the base.
+#[derive(Drop)]
+pub struct Reduced<R: Row> {
+    base: Part,
+    rows: Vec<WorkingRow<R>>,
+}
+
+impl<R: Row> Model for Reduced<R> {
+    ghost use Rattle.relation_core.specs.Systems.{System, columns};
+    ghost use Rattle.elim_core.specs.Reductions.{IsReduction};
+
+    ghost Value = { System };
+
+    ghost view = { λ shared. shared.base };
+
+    ghost invariant = { λ shared. IsReduction (columns shared.base.shape) shared.base.rows shared.rows.items };
+}
+
+impl<R: Row> Reduced<R> {
+    /// The working rows of a system whose rows begin with the base's: those that the base is reduced
+    /// to, and the further rows of the system.
+    pub(crate) fn join(&self, alloc: Global, system: &Part) -> Result<Vec<WorkingRow<R>>, NoMemory>
+        requires shape { system.now.shape ≡ self.now.shape }
+        requires rows { take (length self.now.rows) system.now.rows ≡ self.now.rows }
+        ensures { IfOk result (λ rows. IsReduction (columns system.now.shape) system.now.rows rows.items) }
+    {
+        let known = self.base.row_count();
+        let mut rows = widen(alloc, system.row_count() - known, self.rows.as_slice())?;
+        start_from(alloc, system, known, &mut rows)?;
+        Ok(rows)
+    }
+}
+
+// The rows with `count` multipliers more, which are 0.
+fn widen<R: Row>(
+    alloc: Global,
+    count: usize,
+    rows: &[WorkingRow<R>],
+) -> Result<Vec<WorkingRow<R>>, NoMemory>
+    ensures { IfOk result (λ made. made.items ≡ map (widened count) rows.now) }
+{
+    let mut made = Vec::with_capacity(alloc, rows.len())?;
+    for w in rows {
+        let wide = w.widened(alloc, count)?;
+        made.push(wide)?;
+    }
+    Ok(made)
+}
+
+/// Substitutes the equalities of `base` in its other rows, by `combine` of `R`. An equality whose
+/// substitution would pass 2^127 - 1 is left as it is, so that only memory can be wanting.
+pub fn reduce<R: Row>(alloc: Global, base: &Part) -> Result<Reduced<R>, NoMemory>
+    ensures { IfOk result (λ shared. shared ≡ base.now) }
+{
+    let n = variable_count(base);
+    let width = n + 1 + row_count(base);
+    let started = start::<R>(alloc, base)?;
+    let relieved = relieve_all(alloc, n, width, started)?;
+    let rows = tidy_sound(alloc, n, width, relieved)?;
+    let base = copied(alloc, base)?;
+    Ok(Reduced { base, rows })
+}
+
+// A copy of a part.
+fn copied(alloc: Global, part: &Part) -> Result<Part, NoMemory>
+    ensures { IfOk result (λ made. made ≡ part.now) }
+{
+    let mut made = Part::new(alloc, part.shape());
+    made.conjoin(part)?;
+    Ok(made)
+}
+
+// The rows that have variables, pruned; the same rows where one of them is a contradiction.
+fn tidy_sound<R: Row>(
+    alloc: Global,
+    n: usize,
+    width: usize,
+    rows: Vec<WorkingRow<R>>,
+) -> Result<Vec<WorkingRow<R>>, NoMemory>
+    requires fits { n < width }
+    requires wide { AllRows (Wide width) rows.items }
+    ensures { IfOk result (λ made. Reduces n rows.items made.items) }
+{
+    match find_contradiction(n, width, rows.as_slice()) {
+        Some(_) => Ok(rows),
+        None => {
+            let kept = tidy(alloc, n, width, rows)?;
+            Ok(kept)
+        }
+    }
+}
+
+// The rows after each equality is substituted in the rows that no earlier one has left behind. The
+// equalities stay, before the other rows.
+fn relieve_all<R: Row>(
+    alloc: Global,
+    n: usize,
+    width: usize,
+    rows: Vec<WorkingRow<R>>,
+) -> Result<Vec<WorkingRow<R>>, NoMemory>
+    requires fits { n < width }
+    requires wide { AllRows (Wide width) rows.items }
+    ensures { IfOk result (λ made. Reduces n rows.items made.items) }
+{
+    let mut done = Vec::new(alloc);
+    let mut rest = rows;
+    while let Some(e) = take_equality(&mut rest) {
+        rest = relieve(alloc, n, width, &e, rest)?;
+        done.push(e)?;
+    }
+    done.append(&mut rest)?;
+    Ok(done)
+}
+
+// The rows after an equality is substituted in them; the same rows where it has no variable, or where
+// the substitution would pass 2^127 - 1.
+fn relieve<R: Row>(
+    alloc: Global,
+    n: usize,
+    width: usize,
+    e: &WorkingRow<R>,
+    rows: Vec<WorkingRow<R>>,
+) -> Result<Vec<WorkingRow<R>>, NoMemory>
+    requires fits { n < width }
+    requires row { length e.now.entries ≡ width }
+    requires wide { AllRows (Wide width) rows.items }
+    ensures { IfOk result (λ made. Relieved n e.now rows.items made.items) }
+{
+    if is_constant(e, n) {
+        return Ok(rows);
+    }
+    match substitute_copies(alloc, last_variable(e, n), width, e, rows.as_slice()) {
+        Ok(made) => Ok(made),
+        Err(ElimFail::Memory) => Err(NoMemory),
+        Err(_) => Ok(rows),
+    }
+}

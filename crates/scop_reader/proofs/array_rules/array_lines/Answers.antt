@@ -1,0 +1,23 @@
+use Rattle.std.proofs.Common.{rules, arith, []}
+use Rattle.std.proofs.lemmas.Grind.{common_steps}
+use Rattle.scop_reader.specs.Rules.{arrays_from}
+use Rattle.scop_reader.proofs.Turns.{one_more, no_more}
+use Rattle.scop_reader.proofs.array_rules.array_lines.Goals as goal
+
+pub returns-in_err-next : goal.returns-in_err-next
+unfolding arrays_from
+returns-in_err-next c =
+    let e = one_more (λ n. arrays_from n c.loop-turn.found c.loop-turn.cursor) _ c.loop-turn._turn c.loop-turn-test.true c.loop-turn.invariant in
+    first_of (search rules, grind (arith, common_steps))
+
+pub loop-turn-preserved : goal.loop-turn-preserved
+unfolding arrays_from
+loop-turn-preserved c =
+    let e = one_more (λ n. arrays_from n c.loop-turn.found c.loop-turn.cursor) _ c.loop-turn._turn c.loop-turn-test.true c.loop-turn.invariant in
+    first_of (search rules, grind (arith, common_steps))
+
+pub returns : goal.returns
+unfolding arrays_from
+returns c =
+    let e = no_more (λ n. arrays_from n c.loop-turn.found c.loop-turn.cursor) _ c.loop-turn._turn c.loop-turn-test.false c.loop-turn.invariant in
+    first_of (search rules, grind (arith, common_steps))
