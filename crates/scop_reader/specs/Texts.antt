@@ -1,7 +1,5 @@
 -- Which SCoP a text stands for, and why a text stands for none.
 use Rattle.std.specs.Prelude.{◌≡◌, ℕ, Bool, true, false, ◌&&◌, ◌||◌, ◌==◌, List, [], ◌∷◌, length, Option, Some, None, Result, Ok, Err}
-use Rattle.suite_base.specs.declared.refusals.Fail.{Fail}
-use Rattle.suite_base.specs.declared.refusals.Fail.TheVariants.{Memory, Refused}
 use Rattle.suite_base.specs.declared.refusals.Refusal.{Refusal}
 use Rattle.suite_base.specs.Lines.{lines}
 use Rattle.relation_core.specs.declared.part_rows.PartRow.{PartRow}
@@ -100,11 +98,6 @@ fault_from (Ok pieces) = refusal_of pieces
 -- the first refusal: of a line, of a second SCoP, or of the pieces
 abbrev pub fault : List ℕ → Option Refusal
 fault bytes = fault_from (pieces_in bytes)
-
--- why a text is not read
-abbrev pub IsFault : List ℕ → Fail → Type 0
-IsFault bytes Memory = Unit {0}
-IsFault bytes (Refused refusal) = fault bytes ≡ Some refusal
 
 -- ---- what stands between the two
 

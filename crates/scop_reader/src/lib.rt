@@ -12,10 +12,8 @@ mod line_words;
 mod number_words;
 mod part_rules;
 mod relation_rules;
-mod reading;
 mod roles;
 mod statement_rules;
 mod text_lines;
 
-pub use reading::read_scop;
 pub use roles::Role;
