@@ -44,7 +44,7 @@ empty_is_text = record { rest = record { number = 11; lines = [] }; said = refl;
 
 -- every rule, opened at once
 abbrev Opened : Type 0
-unfolding pieces_in Rules.scop Rules.opening Rules.no_more Rules.globals Rules.globals_from Rules.arrays Rules.arrays_from Rules.array_line Rules.parameters Rules.parameter_names Rules.statement_count Rules.statements_from Rules.statement Rules.relation_count Rules.extensions_from Rules.extension Rules.body Rules.body_text Rules.iterator_names Rules.no_end Rules.names Rules.kept Rules.kept_lines Rules.kept_from Rules.accesses_from Rules.access Rules.kind_line Rules.scattering Rules.domain Rules.context Rules.context_counted Rules.one_part Rules.parts Rules.counted Rules.part_count Rules.parts_from Rules.part Rules.rows_from Rules.row_line Rules.header_line Rules.count_line Rules.number_line word_line closing literal next_said said_line
+unfolding pieces_in Rules.scop Rules.opening Rules.no_more Rules.globals Rules.globals_from Rules.arrays Rules.arrays_from Rules.array_line Rules.parameters Rules.parameter_names Rules.statement_count Rules.statements_from Rules.statement Rules.relation_count Rules.extensions_from Rules.extension Rules.body Rules.body_text Rules.iterator_names Rules.no_end Rules.names Rules.kept Rules.kept_lines Rules.kept_from Rules.accesses_from Rules.access Rules.kind_line Rules.scattering Rules.domain Rules.context Rules.context_counted Rules.one_part Rules.parts Rules.counted Rules.part_count Rules.parts_from Rules.part Rules.rows_from Rules.row_line Rules.header_line Rules.counts_line Rules.one_word Rules.count_line Rules.number_line word_line closing literal next_said said_line
 Opened = Unit {0}
 
 empty_is_read : pieces_in empty_text ≡ Ok (pieces_of empty_document)

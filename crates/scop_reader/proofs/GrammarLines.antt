@@ -32,6 +32,11 @@ pub then_ok : {A B : Type 0} (o : Outcome A) (f : A → Reader B) (b : B) (now :
 then_ok (Ok p) f b now e = record { value = p.0; mid = p.1; first = refl; second = e }
 then_ok (Err r) f b now e = absurd (cc)
 
+-- steps that are grouped otherwise
+pub regroup : {A B C : Type 0} (o : Outcome A) (f : A → Reader B) (g : B → Reader C) (z : Outcome C) → and_then (and_then o f) g ≡ z → and_then o (λ a r. and_then (f a r) g) ≡ z
+regroup (Ok p) f g z e = e
+regroup (Err r) f g z e = e
+
 pub check_then : {B : Type 0} (holds : Bool) (r : Refusal) (rest : Rest) (f : Unit {0} → Reader B) (b : B) (now : Rest) → and_then (check holds r rest) f ≡ Ok (b, now) → (holds ≡ true) × (f tt rest ≡ Ok (b, now))
 check_then true r rest f b now e = (refl, e)
 check_then false r rest f b now e = absurd (cc)
@@ -240,7 +245,7 @@ first_fewer test n (l ∷ ls) now e =
       | inr other ↦ absurd (let no : None ≡ Some now = other.1 in cc)
     ]
 
-silent_fewer : (n : ℕ) (ls : List (List ℕ)) → length (behind_silent n ls).lines ≤ length ls
+pub silent_fewer : (n : ℕ) (ls : List (List ℕ)) → length (behind_silent n ls).lines ≤ length ls
 silent_fewer n [] = omega arith
 silent_fewer n (l ∷ ls) =
     elim (bool_tells (is_silent l)) [

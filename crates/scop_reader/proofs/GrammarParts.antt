@@ -19,10 +19,10 @@ use Rattle.scop_reader.specs.declared.roles.Role.{Role}
 use Rattle.scop_reader.specs.Lines.{Rest, Line, Word, words_of, word_bytes}
 use Rattle.scop_reader.specs.Reading.{Reader, and_then, said_line, number_in, numbers_in, is_count, is_any}
 use Rattle.scop_reader.specs.Rules
-use Rattle.scop_reader.specs.Rules.{Header, header_of, header_limit, header_line, is_shaped, suits, number_at, is_kind, kind_of, row_numbers, row_of, row_line, rows_from, role_behind, parts_from, is_counted, part_count, counted, within}
+use Rattle.scop_reader.specs.Rules.{Header, header_of, header_limit, header_line, counts_line, is_shaped, suits, number_at, is_kind, kind_of, row_numbers, row_of, row_line, rows_from, role_behind, parts_from, is_counted, part_count, counted, within}
 use Rattle.scop_reader.specs.Documents.{Numbers, naturals, header_numbers, kind_number, said_row, said_part, are_numbers, is_value, behind, behind_all}
 use Rattle.scop_reader.specs.Texts.{are_wide}
-use Rattle.scop_reader.proofs.GrammarLines.{then_ok, check_then, unless_then, result_then, read_ok, same_value, same_left, behind_line, line_behind, split_one, join_one}
+use Rattle.scop_reader.proofs.GrammarLines.{then_ok, regroup, check_then, unless_then, result_then, read_ok, same_value, same_left, behind_line, line_behind, split_one, join_one}
 use Rattle.scop_reader.proofs.GrammarWords.{number_line_reads, number_line_said, numbers_read, numbers_said, length-are_numbers, length-word_bytes, all_pass, value_is, is_its_value, number_in_ok, with_number_ok, at_least_passes}
 
 -- ---- limits of counts
@@ -71,7 +71,7 @@ all_counts [] = refl
 all_counts (m ∷ ms) = and_from (is_count (pos m)) (all_pass is_count (naturals ms)) (at_least_passes 0 m (omega arith)) (all_counts ms)
 
 pub header_reads : (role : Role) (k : ℕ) (h : Header) (rest now : Rest) → is_shaped role h ≡ true → header_limit role k h ≡ None → behind (Numbers (numbers_of h)) rest ≡ Some now → header_line role k rest ≡ Ok (h, now)
-unfolding header_line
+unfolding header_line counts_line
 header_reads role k h rest now shaped limit e =
     let read = number_line_reads 6 is_count (numbers_of h) rest now (record { size = refl; pass = all_counts (h.rows ∷ (h.columns ∷ (h.shape.outputs ∷ (h.shape.inputs ∷ (h.shape.locals ∷ (h.shape.parameters ∷ [])))))); said = e }) in
     rw (read.1, shaped, limit) refl
@@ -82,9 +82,9 @@ pub record HeaderLine (role : Role) (k : ℕ) (h : Header) (rest now : Rest) : T
   pub said : behind (Numbers (numbers_of h)) rest ≡ Some now
 
 pub header_said : (role : Role) (k : ℕ) (h : Header) (rest now : Rest) → header_line role k rest ≡ Ok (h, now) → HeaderLine role k h rest now
-unfolding header_line
+unfolding header_line counts_line
 header_said role k h rest now e =
-    let t = then_ok (Rules.number_line 6 is_count rest) _ h now e in
+    let t = then_ok (Rules.number_line 6 is_count rest) _ h now (regroup (Rules.number_line 6 is_count rest) _ _ (Ok (h, now)) e) in
     let made : Header = header_of (Rules.naturals t.value.1) in
     let line = number_line_said 6 is_count t.value rest t.mid t.first in
     let c = check_then (is_shaped role made) (BadScop t.value.0.number) t.mid _ h now t.second in

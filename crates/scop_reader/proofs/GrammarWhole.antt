@@ -17,10 +17,10 @@ use Rattle.scop_reader.specs.declared.roles.Role.TheVariants.{Context}
 use Rattle.scop_reader.specs.Lines.{Rest}
 use Rattle.scop_reader.specs.Reading.{Outcome, Reader, ◌>>=◌, ◌>>◌, pure, and_then, said_line, first_of, literal, word_line}
 use Rattle.scop_reader.specs.Rules
-use Rattle.scop_reader.specs.Rules.{statements_from, statement_count, names, parameter_names, Extensions, no_extensions, globals, close_word, open_word, from_open, opening, no_second, no_more, scop}
+use Rattle.scop_reader.specs.Rules.{statements_from, statement_count, names, parameter_names, Extensions, no_extensions, globals, close_word, open_word, from_open, opening, no_second, no_more, one_word, scop}
 use Rattle.scop_reader.specs.Documents.{Said, Literal, Words, count, Item, StatementText, Document, said_names, said_statement, said_parameters, statement_pieces, pieces_of, first_special, kept_items, behind, behind_all}
 use Rattle.scop_reader.specs.Texts.{has_one_special, IsTextOf, pieces_in, answer_of}
-use Rattle.scop_reader.proofs.GrammarLines.{then_ok, check_then, unless_then, read_ok, same_value, same_left, behind_line, line_behind, are_lines, lines_are, all_keeps, split, split_one, join, join_one, one_alone, alone_one}
+use Rattle.scop_reader.proofs.GrammarLines.{then_ok, regroup, check_then, unless_then, read_ok, same_value, same_left, behind_line, line_behind, are_lines, lines_are, all_keeps, split, split_one, join, join_one, one_alone, alone_one}
 use Rattle.scop_reader.proofs.GrammarWords.{literal_reads, literal_said, word_line_reads, word_line_said, read_words_named, same_ok, not_ok}
 use Rattle.scop_reader.proofs.GrammarParts.{Fits}
 use Rattle.scop_reader.proofs.GrammarRelations.{said_the_context, context_reads, context_said}
@@ -130,7 +130,7 @@ abbrev first_rest : List ℕ → Rest
 first_rest bytes = record { number = 1; lines = lines bytes }
 
 scop_reads : (bytes : List ℕ) (d : Document) → DocumentFits d → (text : IsTextOf bytes d) → scop (first_rest bytes) ≡ Ok (pieces_of d, text.rest)
-unfolding scop opening
+unfolding scop opening one_word
 scop_reads bytes d fits text =
     let start : Rest = from_open 1 (lines bytes) in
     let end : Rest = text.rest in
@@ -221,14 +221,14 @@ made_pieces language context parameters found all statements items pieces mid no
         ∙ ap (λ (f : Extensions (List (ℤ × List ℕ))). record { language = language; context = context; parameters = parameters; statements = map statement_pieces statements; arrays = f.special; extensions = f.others }) x)
 
 text_head : (bytes : List ℕ) (pieces : ScopPieces) (now : Rest) → scop (first_rest bytes) ≡ Ok (pieces, now) → Head bytes pieces now
-unfolding scop opening
+unfolding scop opening one_word
 text_head bytes pieces now e =
     let start : Rest = from_open 1 (lines bytes) in
     let h : are_lines start.lines ≡ true = from_open_keeps 1 (lines bytes) (lines_are bytes) in
     let t0 = then_ok (literal open_word start) _ pieces now e in
     let s0 = literal_said open_word start t0.mid t0.value t0.first in
     let h0 : are_lines t0.mid.lines ≡ true = all_keeps (Literal open_word ∷ []) start t0.mid (one_alone (Literal open_word) start t0.mid s0) h in
-    let t1 = then_ok (word_line 1 t0.mid) _ pieces now t0.second in
+    let t1 = then_ok (word_line 1 t0.mid) _ pieces now (regroup (word_line 1 t0.mid) _ _ (Ok (pieces, now)) t0.second) in
     let w = word_line_said 1 t1.value t0.mid t1.mid t1.first in
     let named = read_words_named 1 t1.value t0.mid t1.mid w h0 in
     let one : t1.value ≡ first_of t1.value ∷ [] = one_language t1.value w.size in

@@ -1,3 +1,11 @@
+pub mod LineExtents
+pub mod ReadingLemmas
+pub mod WordColumns
+pub mod NumberRuns
+pub mod Turns
+pub mod LastBytes
+pub mod NameLines
+pub mod KeptLines
 pub mod GrammarLines
 pub mod GrammarWords
 pub mod GrammarParts
@@ -11,11 +19,7 @@ pub mod GrammarWhole
 pub mod GrammarConditions
 pub mod GrammarProper
 mod Checks
-pub mod LineExtents
-pub mod ReadingLemmas
-pub mod WordColumns
-pub mod NumberRuns
-pub mod Turns
-pub mod LastBytes
-pub mod NameLines
-pub mod KeptLines
+pub mod FewerLines
+pub mod GlobalTurns
+pub mod OpenLines
+pub mod ReadScops

@@ -99,6 +99,11 @@ fault_from (Ok pieces) = refusal_of pieces
 abbrev pub fault : List ℕ → Option Refusal
 fault bytes = fault_from (pieces_in bytes)
 
+-- this SCoP is the one of the pieces that were read, which nothing refuses
+abbrev pub GivesScop : Result ScopPieces Refusal → ScopData → Type 0
+GivesScop (Ok pieces) S = (refusal_of pieces ≡ None) × (S ≡ scop_of pieces)
+GivesScop (Err refusal) S = ⊥
+
 -- ---- what stands between the two
 
 -- a text is read exactly where it is one, as its pieces
