@@ -23,16 +23,7 @@ pub mod FewerLines
 pub mod GlobalTurns
 pub mod OpenLines
 pub mod ReadScops
-pub mod LineExtents
-pub mod ReadingLemmas
-pub mod WordColumns
-pub mod NumberRuns
-pub mod Turns
-pub mod LastBytes
-pub mod NameLines
-pub mod KeptLines
 pub mod GrammarPrinted
 pub mod GrammarSpelled
 pub mod GrammarGood
 pub mod GrammarLayout
-mod Checks
