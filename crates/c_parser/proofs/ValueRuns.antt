@@ -22,7 +22,7 @@ use Rattle.c_parser.specs.Values.{Rules, separated, equal_sign, rel_sign, sum_si
 use Rattle.c_parser.specs.Grammar.{nested}
 use Rattle.c_parser.proofs.TokenFacts.{is_same}
 use Rattle.c_parser.proofs.ValueYields as y
-use Rattle.c_parser.proofs.ValueYields.{nested_sound}
+use Rattle.c_parser.proofs.ValueYields.{nested_derives}
 use Rattle.c_parser.specs.Prefixes.{later, is_sound, Sound, opens_nest, nests_among}
 use Rattle.c_parser.proofs.Runs.{more_nests, Runs, runs_far, bind, take_next, open_next, choose_next, expect_then, expect_next, pure_runs, refuse_runs, peek_then, position_then, take_then, choose, eat_next, again, loop_runs, signed_runs, separated_runs, alike_far}
 
@@ -91,8 +91,8 @@ module _ (r : Reading) (nests : ℕ) (h : Inner r nests (below nests)) where
   abbrev I : Rules
   I = below nests
 
-  abbrev S : y.Sound (below nests) (nested nests)
-  S = nested_sound nests
+  abbrev S : y.Derives (below nests) (nested nests)
+  S = nested_derives nests
 
   subscript_runs : (i : ℕ) → Before r nests i → symbol (later i r) ≡ s.OpenSquare → Runs r (λ x. subscript nests I) i (subscript nests I (later i r))
   unfolding subscript
