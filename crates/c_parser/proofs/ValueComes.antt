@@ -222,10 +222,12 @@ module _ (Deep : Type 0) (wanted nests : ℕ) (room : Room Deep wanted nests) (h
   sum_comes : (t : Sum) (r m : Reading) → g.IsSum wanted F t r m → 3 ≤ power (symbol m) → Comes Deep t m (sum nests I r)
   unfolding sum sum_rest
   sum_comes t r m d k =
-      let more = signed_ends Deep sum_sign sum_token (product nests I) (g.IsProduct wanted F) _ 2 sum_forth no_sum sum_power (omega arith) (y.product_yields nests I (nested nests) S) product_comes d.rest d.derived.0 m d.derived.2 k in
+      let more = signed_ends Deep sum_sign sum_token (product nests I) (g.IsProduct wanted F) _ 2 sum_forth no_sum sum_power (omega arith)
+          (y.product_yields nests I (nested nests) S) product_comes d.rest d.derived.0 m d.derived.2 k in
       then_comes Deep d.first d.derived.0 t m _ _ (product_comes d.first r d.derived.0 d.derived.1 more)
       (then_comes Deep d.rest m t m _ _
-      (signed_comes Deep sum_sign sum_token (product nests I) (g.IsProduct wanted F) _ 2 sum_forth no_sum sum_power (omega arith) (y.product_yields nests I (nested nests) S) product_comes d.rest (left d.derived.0) [] d.derived.0 m (omega arith) d.derived.2 k) (d.is, refl))
+      (signed_comes Deep sum_sign sum_token (product nests I) (g.IsProduct wanted F) _ 2 sum_forth no_sum sum_power (omega arith) (y.product_yields nests I
+      (nested nests) S) product_comes d.rest (left d.derived.0) [] d.derived.0 m (omega arith) d.derived.2 k) (d.is, refl))
 
   compare_comes : (t : Compare) (r m : Reading) → g.IsCompare wanted F t r m → 4 ≤ power (symbol m) → Comes Deep t m (compare nests I r)
   unfolding compare compare_rest
@@ -233,15 +235,18 @@ module _ (Deep : Type 0) (wanted nests : ℕ) (room : Room Deep wanted nests) (h
       let more = signed_ends Deep rel_sign rel_token (sum nests I) (g.IsSum wanted F) _ 3 rel_forth no_rel rel_power (omega arith) (y.sum_yields nests I (nested nests) S) sum_comes d.rest d.derived.0 m d.derived.2 k in
       then_comes Deep d.first d.derived.0 t m _ _ (sum_comes d.first r d.derived.0 d.derived.1 more)
       (then_comes Deep d.rest m t m _ _
-      (signed_comes Deep rel_sign rel_token (sum nests I) (g.IsSum wanted F) _ 3 rel_forth no_rel rel_power (omega arith) (y.sum_yields nests I (nested nests) S) sum_comes d.rest (left d.derived.0) [] d.derived.0 m (omega arith) d.derived.2 k) (d.is, refl))
+      (signed_comes Deep rel_sign rel_token (sum nests I) (g.IsSum wanted F) _ 3 rel_forth no_rel rel_power (omega arith) (y.sum_yields nests I (nested
+      nests) S) sum_comes d.rest (left d.derived.0) [] d.derived.0 m (omega arith) d.derived.2 k) (d.is, refl))
 
   equal_comes : (t : Equal) (r m : Reading) → g.IsEqual wanted F t r m → 5 ≤ power (symbol m) → Comes Deep t m (equal nests I r)
   unfolding equal equal_rest
   equal_comes t r m d k =
-      let more = signed_ends Deep equal_sign equal_token (compare nests I) (g.IsCompare wanted F) _ 4 equal_forth no_equal equal_power (omega arith) (y.compare_yields nests I (nested nests) S) compare_comes d.rest d.derived.0 m d.derived.2 k in
+      let more = signed_ends Deep equal_sign equal_token (compare nests I) (g.IsCompare wanted F) _ 4 equal_forth no_equal equal_power (omega
+          arith) (y.compare_yields nests I (nested nests) S) compare_comes d.rest d.derived.0 m d.derived.2 k in
       then_comes Deep d.first d.derived.0 t m _ _ (compare_comes d.first r d.derived.0 d.derived.1 more)
       (then_comes Deep d.rest m t m _ _
-      (signed_comes Deep equal_sign equal_token (compare nests I) (g.IsCompare wanted F) _ 4 equal_forth no_equal equal_power (omega arith) (y.compare_yields nests I (nested nests) S) compare_comes d.rest (left d.derived.0) [] d.derived.0 m (omega arith) d.derived.2 k) (d.is, refl))
+      (signed_comes Deep equal_sign equal_token (compare nests I) (g.IsCompare wanted F) _ 4 equal_forth no_equal equal_power (omega arith) (y.compare_yields nests I
+      (nested nests) S) compare_comes d.rest (left d.derived.0) [] d.derived.0 m (omega arith) d.derived.2 k) (d.is, refl))
 
   and_comes : (t : And) (r m : Reading) → g.IsAnd wanted F t r m → 6 ≤ power (symbol m) → Comes Deep t m (and_value nests I r)
   unfolding and_value
