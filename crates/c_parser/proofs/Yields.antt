@@ -89,14 +89,14 @@ pub then_takes : {A B : Type 0} (r : Reading) (P : A → Reading → Type 0) (Q 
 then_takes r P Q (Ok y) f h k = narrower r y.1 Q (f y.0 y.1) h.0 (k y.0 y.1 h.1)
 then_takes r P Q (Err e) f h k = tt
 
--- a symbol that is one of a token
-abbrev pub IsToken : Symbol → Type 0
-IsToken k = (k ≡ s.End → ⊥) × (k ≡ s.Bad → ⊥)
+-- the symbol is that of a token
+abbrev pub OfToken : Symbol → Type 0
+OfToken k = (k ≡ s.End → ⊥) × (k ≡ s.Bad → ⊥)
 
-pub take_takes : {B : Type 0} (k : Symbol) (r : Reading) (Q : B → Reading → Type 0) (o : Outcome B) → symbol r ≡ k → IsToken k → Yields (after r) Q o → Takes r Q o
+pub take_takes : {B : Type 0} (k : Symbol) (r : Reading) (Q : B → Reading → Type 0) (o : Outcome B) → symbol r ≡ k → OfToken k → Yields (after r) Q o → Takes r Q o
 take_takes k r Q o e h g = narrower r (after r) Q o (left_less r (λ f. h.0 (sym e ∙ f)) (λ f. h.1 (sym e ∙ f))) g
 
-pub expect_takes : (k : Symbol) (r : Reading) → IsToken k → Takes r (λ p m. word k p r m) (expect k r)
+pub expect_takes : (k : Symbol) (r : Reading) → OfToken k → Takes r (λ p m. word k p r m) (expect k r)
 unfolding expect
 expect_takes k r h = go (sees k r) refl
   where
