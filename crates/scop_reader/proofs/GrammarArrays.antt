@@ -143,8 +143,8 @@ arrays_push (f ∷ found) a h least named new =
     let own = and_parts (int_le (pos 1) f.0 && is_name f.1) (has_no_array f.0 found) all.0 in
     let differs = and_parts (not (int_eq a.0 f.0)) (has_no_array a.0 found) new in
     and_from (int_le (pos 1) f.0 && is_name f.1 && has_no_array f.0 (found ++ a ∷ [])) (are_arrays (found ++ a ∷ []))
-        (and_from (int_le (pos 1) f.0 && is_name f.1) (has_no_array f.0 (found ++ a ∷ [])) own.0 (no_array_push f.0 found a own.1 (other_way_z a.0 f.0 differs.0)))
-        (arrays_push found a all.1 least named differs.1)
+    (and_from (int_le (pos 1) f.0 && is_name f.1) (has_no_array f.0 (found ++ a ∷ [])) own.0 (no_array_push f.0 found a own.1 (other_way_z a.0 f.0 differs.0)))
+    (arrays_push found a all.1 least named differs.1)
 
 arrays_from_reads : (n : ℕ) (arrays found : List Array) (rest now : Rest) → are_arrays (found ++ arrays) ≡ true → length arrays ≡ n → behind_all (map said_array arrays) rest ≡ Some now → arrays_from n found rest ≡ Ok (found ++ arrays, now)
 unfolding arrays_from
@@ -218,5 +218,5 @@ arrays_said arrays rest now h e =
     let count_said : behind (count (length read.arrays)) rest ≡ Some t.mid = ap (λ (m : ℕ). behind (count m) rest) read.size ∙ counted.1 in
     let is : AreArrays read.arrays = record { are = ap are_arrays (sym read.all_are) ∙ read.are; few = ap (nat_lt 4096) read.size ∙ c.0 } in
     let said : behind_all (said_behind_arrays read.arrays) rest ≡ Some now = join_one (count (length read.arrays)) (map said_array read.arrays ++ Closing (end_line arrays_name) ∷ []) rest t.mid now count_said
-        (join (map said_array read.arrays) (Closing (end_line arrays_name) ∷ []) t.mid u.mid now read.said end) in
+    (join (map said_array read.arrays) (Closing (end_line arrays_name) ∷ []) t.mid u.mid now read.said end) in
     (subst AreArrays all is, subst (λ (l : List Array). behind_all (said_behind_arrays l) rest ≡ Some now) all said)

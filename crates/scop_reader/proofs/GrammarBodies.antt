@@ -75,7 +75,7 @@ iterators_reads (suc n) (w ∷ ws) rest now size other e =
     let l = behind_line (Words (w ∷ ws)) rest now refl one in
     let same : word_bytes (words_of l.line.bytes) ≡ w ∷ ws = same_words (word_bytes (words_of l.line.bytes)) (w ∷ ws) l.said_is in
     let content_other : not (bytes_eq (content l.line.bytes) (end_line body_name)) ≡ true =
-        content_differs l.line.bytes (end_line body_name) refl (ap (λ (vs : List (List ℕ)). not (bytes_eq (spaced vs) (end_line body_name))) same ∙ other) in
+    content_differs l.line.bytes (end_line body_name) refl (ap (λ (vs : List (List ℕ)). not (bytes_eq (spaced vs) (end_line body_name))) same ∙ other) in
     rw (no_end_ok rest now l.line l.read content_other) (word_line_reads (suc n) (w ∷ ws) rest now one size)
 
 -- the names of a body's iterators that were read
@@ -131,9 +131,10 @@ text_said text rest now h e =
     let same : content u.value.bytes ≡ text = same_value (content u.value.bytes) text u.mid now u.second in
     let left : u.mid ≡ now = same_left (content u.value.bytes) text u.mid now u.second in
     let read : said_line rest ≡ Ok (u.value, now) = u.first ∙ ap (λ (r : Rest). read_ok u.value r) left in
-    let other : not (bytes_eq (content u.value.bytes) (end_line body_name)) ≡ true = ap (λ (l : List ℕ). not (bytes_eq (content l) (end_line body_name))) (sym (next_is rest now u.value read)) ∙ t.0 in
-    (ap is_body_line (sym same) ∙ body_line_is u.value.bytes (line_keeps rest now u.value read h) (line_speaks rest now u.value read) other,
-        line_behind (Literal text) rest now u.value refl read ((bytes_eq-Decides (content u.value.bytes) text).1 same))
+    let other : not (bytes_eq (content u.value.bytes) (end_line body_name)) ≡ true = ap (λ (l : List ℕ). not (bytes_eq (content l) (end_line body_name))) (sym (next_is rest now u.value read)) ∙ t.0 in (
+      ap is_body_line (sym same) ∙ body_line_is u.value.bytes (line_keeps rest now u.value read h) (line_speaks rest now u.value read) other,
+      line_behind (Literal text) rest now u.value refl read ((bytes_eq-Decides (content u.value.bytes) text).1 same),
+    )
 
 -- ---- a body behind its opening line
 
@@ -154,8 +155,13 @@ body_reads iterators b rest now is e =
     let t = split (said_names b.iterators) (Literal b.text ∷ (Closing (end_line body_name) ∷ [])) s.mid now s.second in
     let u = split_one (Literal b.text) (Closing (end_line body_name) ∷ []) t.mid now t.second in
     let counted = count_line_reads 0 (length b.iterators) rest s.mid s.first (omega arith) in
-    rw (counted.1, (Decides-eqb (length b.iterators) iterators).1 is.size, iterators_reads iterators b.iterators s.mid t.mid is.size named.1 t.first,
-        text_reads b.text t.mid u.mid both.1 u.first, closing_reads (end_line body_name) u.mid now (alone_one (Closing (end_line body_name)) u.mid now u.second)) refl
+    rw (
+      counted.1,
+      (Decides-eqb (length b.iterators) iterators).1 is.size,
+      iterators_reads iterators b.iterators s.mid t.mid is.size named.1 t.first,
+      text_reads b.text t.mid u.mid both.1 u.first,
+      closing_reads (end_line body_name) u.mid now (alone_one (Closing (end_line body_name)) u.mid now u.second),
+    ) refl
 
 pub body_said : (iterators : ℕ) (b : Body) (rest now : Rest) → are_lines rest.lines ≡ true → Rules.body iterators rest ≡ Ok (b, now) → IsBody iterators b × (behind_all (said_behind_body b) rest ≡ Some now)
 unfolding Rules.body
@@ -184,6 +190,6 @@ body_said iterators b rest now h e =
     } in
     let tail : behind_all (Literal v.value ∷ (Closing (end_line body_name) ∷ [])) u.mid ≡ Some now = join_one (Literal v.value) (Closing (end_line body_name) ∷ []) u.mid v.mid now text.1 (one_alone (Closing (end_line body_name)) v.mid now end) in
     let said : behind_all (said_behind_body made) rest ≡ Some now =
-        join_one (count (length u.value)) (said_names u.value ++ Literal v.value ∷ (Closing (end_line body_name) ∷ [])) rest t.mid now count_said
-            (join (said_names u.value) (Literal v.value ∷ (Closing (end_line body_name) ∷ [])) t.mid u.mid now named.names_read.said tail) in
+    join_one (count (length u.value)) (said_names u.value ++ Literal v.value ∷ (Closing (end_line body_name) ∷ [])) rest t.mid now count_said
+    (join (said_names u.value) (Literal v.value ∷ (Closing (end_line body_name) ∷ [])) t.mid u.mid now named.names_read.said tail) in
     (subst (IsBody iterators) same is, subst (λ (x : Body). behind_all (said_behind_body x) rest ≡ Some now) same said)

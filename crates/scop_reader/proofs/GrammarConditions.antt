@@ -96,16 +96,17 @@ fitted role k (p ∷ ps) t =
     let locals = or_parts (nat_lt 24 p.shape.locals) (some_above LocalCount 24 ps) t.locals in
     let rows = or_parts (nat_lt 256 (length p.rows)) (some_above RowCount 256 ps) t.rows in
     let parameters = or_parts (nat_lt 16 p.shape.parameters) (many_parameters ps) t.parameters in
-    let wide = and_parts (are_wide (width p.shape) p.rows) (parts_are_wide ps) t.wide in
-    (record { suited = t.suited.0; limit = low_back role k p (record { rows = rows.0; outputs = outputs.0; locals = locals.0; parameters = parameters.0 }); wide = wide.0 },
-        fitted (role_behind role p) k ps (record {
-          suited = t.suited.1;
-          outputs = ap (λ (n : ℕ). some_above OutputCount n ps) (same_most role p) ∙ outputs.1;
-          locals = locals.1;
-          rows = rows.1;
-          parameters = parameters.1;
-          wide = wide.1;
-        }))
+    let wide = and_parts (are_wide (width p.shape) p.rows) (parts_are_wide ps) t.wide in (
+      record { suited = t.suited.0; limit = low_back role k p (record { rows = rows.0; outputs = outputs.0; locals = locals.0; parameters = parameters.0 }); wide = wide.0 },
+      fitted (role_behind role p) k ps (record {
+        suited = t.suited.1;
+        outputs = ap (λ (n : ℕ). some_above OutputCount n ps) (same_most role p) ∙ outputs.1;
+        locals = locals.1;
+        rows = rows.1;
+        parameters = parameters.1;
+        wide = wide.1;
+      }),
+    )
 
 -- ---- inputs and parameters
 
@@ -157,7 +158,7 @@ domain_part ps n p e =
 part_domain : (ps n : ℕ) (p : System) → IsDomainPart n ps p → suits (Domain ps (Some n)) p.shape ≡ true
 part_domain ps n p h =
     and_from ((p.shape.parameters == ps) && (p.shape.inputs == 0)) (p.shape.outputs == n)
-        (and_from (p.shape.parameters == ps) (p.shape.inputs == 0) (equal_is p.shape.parameters ps h.parameters_are) (equal_is p.shape.inputs 0 h.inputs)) (equal_is p.shape.outputs n h.outputs)
+    (and_from (p.shape.parameters == ps) (p.shape.inputs == 0) (equal_is p.shape.parameters ps h.parameters_are) (equal_is p.shape.inputs 0 h.inputs)) (equal_is p.shape.outputs n h.outputs)
 
 known_domain : (ps n : ℕ) (parts : List System) → AllSuit (Domain ps (Some n)) parts → AllByRecursion (IsDomainPart n ps) parts
 known_domain ps n [] h = tt
@@ -176,9 +177,11 @@ domain_parts ps (p ∷ parts) h =
 
 pub parts_domain : (ps : ℕ) (parts : List System) → AllByRecursion (IsDomainPart (the_part parts).shape.outputs ps) parts → AllSuit (Domain ps None) parts
 parts_domain ps [] h = tt
-parts_domain ps (p ∷ parts) h =
-    (and_from ((p.shape.parameters == ps) && (p.shape.inputs == 0)) true
-        (and_from (p.shape.parameters == ps) (p.shape.inputs == 0) (equal_is p.shape.parameters ps h.0.parameters_are) (equal_is p.shape.inputs 0 h.0.inputs)) refl, domain_known ps p.shape.outputs parts h.1)
+parts_domain ps (p ∷ parts) h = (
+  and_from ((p.shape.parameters == ps) && (p.shape.inputs == 0)) true
+      (and_from (p.shape.parameters == ps) (p.shape.inputs == 0) (equal_is p.shape.parameters ps h.0.parameters_are) (equal_is p.shape.inputs 0 h.0.inputs)) refl,
+  domain_known ps p.shape.outputs parts h.1,
+)
 
 pub domain_low : (ps n : ℕ) (parts : List System) → nat_lt 16 ps ≡ false → AllByRecursion (IsDomainPart n ps) parts → many_parameters parts ≡ false
 domain_low ps n [] low h = refl
@@ -222,20 +225,22 @@ accesses_fit ps n k (a ∷ accesses) low t =
     let few = or_parts (nat_lt 64 (length a.1.parts)) (accesses_many rest) t.few in
     let are = and_parts (is_relation a.1) (are_relations accesses) t.are in
     let own = and_parts (a.1.is_counted || (length a.1.parts == 1)) (parts_are_wide a.1.parts) are.0 in
-    let inputs : AllByRecursion (HasInputs n ps) a.1.parts = recursion_from_All (HasInputs n ps) a.1.parts t.inputs.0 in
-    (record {
-      fit = fitted (Access ps n) k a.1.parts (record {
-        suited = suits_access ps n a.1.parts inputs;
-        outputs = outputs.0;
-        locals = locals.0;
-        rows = rows.0;
-        parameters = inputs_low ps n a.1.parts low inputs;
-        wide = own.1;
-      });
-      some = t.some.0;
-      few = few.0;
-      told = own.0;
-    }, accesses_fit ps n k accesses low (record { inputs = t.inputs.1; some = t.some.1; outputs = outputs.1; locals = locals.1; rows = rows.1; few = few.1; are = are.1 }))
+    let inputs : AllByRecursion (HasInputs n ps) a.1.parts = recursion_from_All (HasInputs n ps) a.1.parts t.inputs.0 in (
+      record {
+        fit = fitted (Access ps n) k a.1.parts (record {
+          suited = suits_access ps n a.1.parts inputs;
+          outputs = outputs.0;
+          locals = locals.0;
+          rows = rows.0;
+          parameters = inputs_low ps n a.1.parts low inputs;
+          wide = own.1;
+        });
+        some = t.some.0;
+        few = few.0;
+        told = own.0;
+      },
+      accesses_fit ps n k accesses low (record { inputs = t.inputs.1; some = t.some.1; outputs = outputs.1; locals = locals.1; rows = rows.1; few = few.1; are = are.1 }),
+    )
 
 -- ---- extensions
 

@@ -80,12 +80,12 @@ kept_from_said name all found n (line ∷ text) now h e =
     let whole = and_parts (has_no 10 line) (are_lines text) h in
     elim (if_cases (bytes_eq (trim line) (end_line name)) (read_ok found (record { number = n + 1; lines = text })) (kept_from name (n + 1) (found ++ line ∷ []) text) (Ok (all, now)) e) [
       | inl end ↦ record {
-          lines = [];
-          are = refl;
-          all_are = sym (same_value found all (record { number = n + 1; lines = text }) now end.1) ∙ sym (append-nil found);
-          said = one_alone (End (end_line name)) (record { number = n; lines = line ∷ text }) now
-              (raw_makes (End (end_line name)) n line text refl end.0 ∙ ap (λ (r : Rest). Some r) (same_left found all (record { number = n + 1; lines = text }) now end.1));
-        }
+        lines = [];
+        are = refl;
+        all_are = sym (same_value found all (record { number = n + 1; lines = text }) now end.1) ∙ sym (append-nil found);
+        said = one_alone (End (end_line name)) (record { number = n; lines = line ∷ text }) now
+            (raw_makes (End (end_line name)) n line text refl end.0 ∙ ap (λ (r : Rest). Some r) (same_left found all (record { number = n + 1; lines = text }) now end.1));
+      }
       | inr other ↦
           let more = kept_from_said name all (found ++ line ∷ []) (n + 1) text now whole.1 other.1 in
           record {
@@ -123,7 +123,7 @@ pub open_is : (name : List ℕ) → is_extension_name name ≡ true → is_openi
 open_is name h =
     let same : open_line name ≡ 60 ∷ opened_name (open_line name) ++ 62 ∷ [] = ap open_line (sym (opened name)) in
     and_from (bytes_eq (open_line name) (60 ∷ opened_name (open_line name) ++ 62 ∷ [])) (is_extension_name (opened_name (open_line name))) ((bytes_eq-Decides (open_line name) (60 ∷ opened_name (open_line name) ++ 62 ∷ [])).1 same)
-        (ap is_extension_name (opened name) ∙ h)
+    (ap is_extension_name (opened name) ∙ h)
 
 opening_is : (line : List ℕ) → is_opening line ≡ true → (line ≡ open_line (opened_name line)) × (is_extension_name (opened_name line) ≡ true)
 opening_is line h =
@@ -200,7 +200,7 @@ module _ {A : Type 0} (special : List ℕ) (rule : Reader A) (said_rule tail : A
       let c = check_then (is_opening text) (BadScop t.value.number) t.mid _ next now t.second in
       let o = opening_is text c.0 in
       let first : behind (Literal (open_line (opened_name text))) rest ≡ Some t.mid =
-          line_behind (Literal (open_line (opened_name text))) rest t.mid t.value refl t.first ((bytes_eq-Decides text (open_line (opened_name text))).1 o.0) in
+      line_behind (Literal (open_line (opened_name text))) rest t.mid t.value refl t.first ((bytes_eq-Decides text (open_line (opened_name text))).1 o.0) in
       let h1 : are_lines t.mid.lines ≡ true = all_keeps (Literal (open_line (opened_name text)) ∷ []) rest t.mid (one_alone (Literal (open_line (opened_name text))) rest t.mid first) h in
       elim (if_reader (bytes_eq (opened_name text) special) _ _ t.mid (Ok (next, now)) c.1) [
         | inl one ↦
@@ -226,10 +226,10 @@ module _ {A : Type 0} (special : List ℕ) (rule : Reader A) (said_rule tail : A
             let read = kept_said (opened_name text) u.value t.mid u.mid h1 u.first in
             let named : opened_name text ≡ u.value.name = sym read.0 in
             let whole : behind_all (Literal (open_line (opened_name text)) ∷ said_to_end (opened_name text) u.value.lines) rest ≡ Some now =
-                join_one (Literal (open_line (opened_name text))) (said_to_end (opened_name text) u.value.lines) rest t.mid now first (read.2 ∙ ap (λ (r : Rest). Some r) left) in
+            join_one (Literal (open_line (opened_name text))) (said_to_end (opened_name text) u.value.lines) rest t.mid now first (read.2 ∙ ap (λ (r : Rest). Some r) left) in
             let kept_it : (is_extension_name (opened_name text) && not (bytes_eq (opened_name text) special) && are_kept_lines (opened_name text) u.value.lines) ≡ true =
-                and_from (is_extension_name (opened_name text) && not (bytes_eq (opened_name text) special)) (are_kept_lines (opened_name text) u.value.lines)
-                    (and_from (is_extension_name (opened_name text)) (not (bytes_eq (opened_name text) special)) o.1 (ap not other.0)) read.1 in
+            and_from (is_extension_name (opened_name text) && not (bytes_eq (opened_name text) special)) (are_kept_lines (opened_name text) u.value.lines)
+            (and_from (is_extension_name (opened_name text)) (not (bytes_eq (opened_name text) special)) o.1 (ap not other.0)) read.1 in
             record {
               item = Kept u.value;
               fits = ap (λ (n : List ℕ). is_extension_name n && not (bytes_eq n special) && are_kept_lines n u.value.lines) (sym named) ∙ kept_it;

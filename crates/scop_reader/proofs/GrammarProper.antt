@@ -141,7 +141,7 @@ fits_proper parameters k s f =
       });
       is = and_from (is_relation s.domain && is_relation s.scattering && are_relations s.accesses) (has_one_special s.items)
           (and_from (is_relation s.domain && is_relation s.scattering) (are_relations s.accesses)
-              (and_from (is_relation s.domain) (is_relation s.scattering) (relation_is s.domain f.domain.told d.wide) (relation_is s.scattering f.scattering.told c.wide)) a.are) f.one;
+          (and_from (is_relation s.domain) (is_relation s.scattering) (relation_is s.domain f.domain.told d.wide) (relation_is s.scattering f.scattering.told c.wide)) a.are) f.one;
     }
 
 -- what a proper statement passes, taken apart
@@ -250,9 +250,10 @@ all_fit : (parameters k : ℕ) (statements : List StatementText) → nat_lt 16 p
 all_fit parameters k [] ps p = tt
 all_fit parameters k (s ∷ statements) ps p =
     let limits = no_first (statement_limit k (statement_pieces s)) (first_limit (k + 1) (map statement_pieces statements)) p.limit in
-    let are = and_parts (is_statement s) (are_statements statements) p.are in
-    (proper_fits parameters k s ps (record { shapes = p.shapes.0; printable = p.printable.0; limit = limits.0; is = are.0 }),
-        all_fit parameters (k + 1) statements ps (record { shapes = p.shapes.1; printable = p.printable.1; limit = limits.1; are = are.1 }))
+    let are = and_parts (is_statement s) (are_statements statements) p.are in (
+      proper_fits parameters k s ps (record { shapes = p.shapes.0; printable = p.printable.0; limit = limits.0; is = are.0 }),
+      all_fit parameters (k + 1) statements ps (record { shapes = p.shapes.1; printable = p.printable.1; limit = limits.1; are = are.1 }),
+    )
 
 -- ---- the context, the names and the arrays
 

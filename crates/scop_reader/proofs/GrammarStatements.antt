@@ -85,10 +85,16 @@ statement_reads parameters k s rest now fits e =
     let counted = count_line_reads 0 (length s.items) c3.mid c4.mid c4.first (omega arith) in
     let free : follow (no_extensions {A = Body}) s.items ≡ true = follow_is s.items ∙ fits.one in
     let read : extensions_from n (length s.items) no_extensions c4.mid ≡ Ok (record { special = first_special s.items; others = kept_items s.items }, now) =
-        items_reads n (length s.items) s.items no_extensions c4.mid now fits.items free refl c4.second ∙ ap (λ (x : Extensions Body). read_ok x now) (gathered_from s.items free) in
-    rw (relation_count_reads k (length s.accesses) rest c0.mid fits.few c0.first, domain_reads parameters k s.domain c0.mid c1.mid fits.domain c1.first,
-        scattering_reads parameters n k s.scattering c1.mid c2.mid fits.scattering c2.first, two_fewer (length s.accesses),
-        accesses_reads parameters n k (length s.accesses) s.accesses [] c2.mid c3.mid fits.accesses refl c3.first, counted.1, read) refl
+    items_reads n (length s.items) s.items no_extensions c4.mid now fits.items free refl c4.second ∙ ap (λ (x : Extensions Body). read_ok x now) (gathered_from s.items free) in
+    rw (
+      relation_count_reads k (length s.accesses) rest c0.mid fits.few c0.first,
+      domain_reads parameters k s.domain c0.mid c1.mid fits.domain c1.first,
+      scattering_reads parameters n k s.scattering c1.mid c2.mid fits.scattering c2.first,
+      two_fewer (length s.accesses),
+      accesses_reads parameters n k (length s.accesses) s.accesses [] c2.mid c3.mid fits.accesses refl c3.first,
+      counted.1,
+      read,
+    ) refl
 
 pub record StatementRead (parameters k : ℕ) (made : RawStatement) (rest now : Rest) : Type 0 where
   pub text : StatementText
@@ -183,10 +189,10 @@ text_of_pieces parameters k made rest now p =
     let text : StatementText = record { domain = d; scattering = c; accesses = p.accesses; items = p.items } in
     let extensions : List Said = count (length p.items) ∷ flat_map (said_item said_body) p.items in
     let tail : behind_all (flat_map said_access p.accesses ++ extensions) p.r2 ≡ Some now =
-        join (flat_map said_access p.accesses) extensions p.r2 p.r3 now p.accesses_said (join_one (count (length p.items)) (flat_map (said_item said_body) p.items) p.r3 p.r4 now p.count_said p.items_said) in
+    join (flat_map said_access p.accesses) extensions p.r2 p.r3 now p.accesses_said (join_one (count (length p.items)) (flat_map (said_item said_body) p.items) p.r3 p.r4 now p.count_said p.items_said) in
     let from_domain : behind_all (said_relation (codes "DOMAIN") d ++ (said_relation (codes "SCATTERING") c ++ (flat_map said_access p.accesses ++ extensions))) p.r0 ≡ Some now =
-        join (said_relation (codes "DOMAIN") d) (said_relation (codes "SCATTERING") c ++ (flat_map said_access p.accesses ++ extensions)) p.r0 p.r1 now p.domain_read.said
-            (join (said_relation (codes "SCATTERING") c) (flat_map said_access p.accesses ++ extensions) p.r1 p.r2 now p.scattering_read.said tail) in
+    join (said_relation (codes "DOMAIN") d) (said_relation (codes "SCATTERING") c ++ (flat_map said_access p.accesses ++ extensions)) p.r0 p.r1 now p.domain_read.said
+    (join (said_relation (codes "SCATTERING") c) (flat_map said_access p.accesses ++ extensions) p.r1 p.r2 now p.scattering_read.said tail) in
     record {
       text = text;
       fits = record {

@@ -68,7 +68,7 @@ ends s =
     let one = front s in
     let two = front (reverse (trim_front s)) in
     let back : trim_front s ≡ trim s ++ reverse two.before =
-        sym (reverse-reverse (trim_front s)) ∙ (ap reverse two.is ∙ reverse-append two.before (trim_front (reverse (trim_front s)))) in
+    sym (reverse-reverse (trim_front s)) ∙ (ap reverse two.is ∙ reverse-append two.before (trim_front (reverse (trim_front s)))) in
     record {
       before = one.before;
       after = reverse two.before;
@@ -151,6 +151,7 @@ no_blank_end s (b ∷ t) h e =
   where
     reverse_some : (c : ℕ) (u : List ℕ) → reverse (c ∷ u) ≡ [] → ⊥
     reverse_some c u f = let no : [] ≡ c ∷ u = sym (ap reverse f) ∙ reverse-reverse (c ∷ u) in absurd (cc)
+
     begins_first : (u v : List ℕ) → all_blank u ≡ true → (u ≡ [] → ⊥) → begins_word (u ++ v) ≡ false
     begins_first [] v k some = absurd (some refl)
     begins_first (c ∷ u) v k some = rw ((and_parts (is_blank c) (all_blank u) k).0) refl
@@ -212,7 +213,7 @@ body_line_is line h some other =
     let e = trim_ends (without_comment line) some in
     let both : (begins_word (content line) && begins_word (reverse (content line))) ≡ true = and_from (begins_word (content line)) (begins_word (reverse (content line))) e.0 e.1 in
     let plain : (begins_word (content line) && begins_word (reverse (content line)) && is_plain (content line)) ≡ true =
-        and_from (begins_word (content line) && begins_word (reverse (content line))) (is_plain (content line)) both (plain_content line h) in
+    and_from (begins_word (content line) && begins_word (reverse (content line))) (is_plain (content line)) both (plain_content line h) in
     and_from (begins_word (content line) && begins_word (reverse (content line)) && is_plain (content line)) (not (bytes_eq (content line) (end_line body_name))) plain other
 
 -- ---- words with single spaces between them, and the line that ends a body
@@ -250,11 +251,11 @@ spaced_differs line w h some other =
     let ws : List (List ℕ) = word_bytes (words_of line) in
     let e = trim_ends (without_comment line) some in
     differs (spaced ws) w (λ same.
-        let alone : words (content line) ≡ w ∷ [] = sym (content_words line) ∙ spaced_one ws w h same in
-        differ (content line) w other (one_word (content line) w e.0 e.1 alone))
+    let alone : words (content line) ≡ w ∷ [] = sym (content_words line) ∙ spaced_one ws w h same in
+    differ (content line) w other (one_word (content line) w e.0 e.1 alone))
 
 pub content_differs : (line w : List ℕ) → is_word w ≡ true → not (bytes_eq (spaced (word_bytes (words_of line))) w) ≡ true → not (bytes_eq (content line) w) ≡ true
 content_differs line w h other =
     differs (content line) w (λ same.
-        let ws : word_bytes (words_of line) ≡ w ∷ [] = content_words line ∙ (ap words same ∙ word_words w h) in
-        differ (spaced (word_bytes (words_of line))) w other (ap spaced ws))
+    let ws : word_bytes (words_of line) ≡ w ∷ [] = content_words line ∙ (ap words same ∙ word_words w h) in
+    differ (spaced (word_bytes (words_of line))) w other (ap spaced ws))

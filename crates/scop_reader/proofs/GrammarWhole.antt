@@ -54,7 +54,7 @@ strings_said n ws rest now h e =
     let same : u.value ≡ ws = same_value u.value ws v.mid now v.second in
     let left : v.mid ≡ now = same_left u.value ws v.mid now v.second in
     let said : behind_all (said_strings u.value) rest ≡ Some now = join_one (Literal (codes "<strings>")) (said_names u.value ++ Literal (codes "</strings>") ∷ []) rest t.mid now first
-        (join (said_names u.value) (Literal (codes "</strings>") ∷ []) t.mid u.mid now read.said (one_alone (Literal (codes "</strings>")) u.mid now (last ∙ ap (λ (r : Rest). Some r) left))) in
+    (join (said_names u.value) (Literal (codes "</strings>") ∷ []) t.mid u.mid now read.said (one_alone (Literal (codes "</strings>")) u.mid now (last ∙ ap (λ (r : Rest). Some r) left))) in
     (ap length (sym same) ∙ read.size, ap are_names (sym same) ∙ read.are, ap (λ (l : List (List ℕ)). behind_all (said_strings l) rest) (sym same) ∙ said)
 
 abbrev pub NamesFit : ℕ → Option (List (List ℕ)) → Type 0
@@ -143,9 +143,16 @@ scop_reads bytes d fits text =
     let c3 = split (said_parameters d.parameters) (count (length d.statements) ∷ tail3) c2.mid end c2.second in
     let c4 = split_one (count (length d.statements)) tail3 c3.mid end c3.second in
     let c5 = split (flat_map said_statement d.statements) (said_to_close d.items) c4.mid end c4.second in
-    rw (literal_reads open_word start c0.mid c0.first, word_line_reads 1 (d.language ∷ []) c0.mid c1.mid c1.first refl, context_reads d.is_counted d.context c1.mid c2.mid fits.context c2.first,
-        parameters_reads ps d.parameters c2.mid c3.mid fits.names c3.first, statement_count_reads (length d.statements) c3.mid c4.mid fits.few c4.first,
-        statements_reads ps 1 (length d.statements) d.statements [] c4.mid c5.mid fits.statements refl c5.first, globals_reads d.items c5.mid end fits.items fits.one c5.second, no_more_ok end text.one) refl
+    rw (
+      literal_reads open_word start c0.mid c0.first,
+      word_line_reads 1 (d.language ∷ []) c0.mid c1.mid c1.first refl,
+      context_reads d.is_counted d.context c1.mid c2.mid fits.context c2.first,
+      parameters_reads ps d.parameters c2.mid c3.mid fits.names c3.first,
+      statement_count_reads (length d.statements) c3.mid c4.mid fits.few c4.first,
+      statements_reads ps 1 (length d.statements) d.statements [] c4.mid c5.mid fits.statements refl c5.first,
+      globals_reads d.items c5.mid end fits.items fits.one c5.second,
+      no_more_ok end text.one,
+    ) refl
 
 -- a text of a document that fits is read as its pieces
 pub text_is_read : (bytes : List ℕ) (d : Document) → DocumentFits d → IsTextOf bytes d → pieces_in bytes ≡ Ok (pieces_of d)
@@ -218,7 +225,7 @@ made_pieces : (language : List ℕ) (context : System) (parameters : Option (Lis
 made_pieces language context parameters found all statements items pieces mid now e s x =
     let made : ScopPieces = record { language = language; context = context; parameters = parameters; statements = all; arrays = found.special; extensions = found.others } in
     sym (same_value made pieces mid now e) ∙ (ap (λ (l : List RawStatement). record { language = language; context = context; parameters = parameters; statements = l; arrays = found.special; extensions = found.others }) s
-        ∙ ap (λ (f : Extensions (List (ℤ × List ℕ))). record { language = language; context = context; parameters = parameters; statements = map statement_pieces statements; arrays = f.special; extensions = f.others }) x)
+    ∙ ap (λ (f : Extensions (List (ℤ × List ℕ))). record { language = language; context = context; parameters = parameters; statements = map statement_pieces statements; arrays = f.special; extensions = f.others }) x)
 
 text_head : (bytes : List ℕ) (pieces : ScopPieces) (now : Rest) → scop (first_rest bytes) ≡ Ok (pieces, now) → Head bytes pieces now
 unfolding scop opening one_word

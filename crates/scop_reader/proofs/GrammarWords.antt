@@ -143,15 +143,15 @@ not_blank b e = ap not e
 pub name_alone : (b : ℕ) → is_blank b ≡ false → is_plain (b ∷ []) ≡ true → is_name (b ∷ []) ≡ true
 name_alone b clear plain =
     and_from (is_word (b ∷ [])) (is_plain (b ∷ []))
-      (and_from (not (is_blank b)) (unbroken (b ∷ [])) (not_blank b clear) (and_from (not (is_blank b)) true (not_blank b clear) refl)) plain
+    (and_from (not (is_blank b)) (unbroken (b ∷ [])) (not_blank b clear) (and_from (not (is_blank b)) true (not_blank b clear) refl)) plain
 
 pub name_more : (b : ℕ) (word : List ℕ) → is_blank b ≡ false → is_plain (b ∷ []) ≡ true → is_name word ≡ true → is_name (b ∷ word) ≡ true
 name_more b word clear plain h =
     let both = and_parts (is_word word) (is_plain word) h in
     let own = and_parts (begins_word word) (unbroken word) both.0 in
     and_from (is_word (b ∷ word)) (is_plain (b ∷ word))
-      (and_from (not (is_blank b)) (unbroken (b ∷ word)) (not_blank b clear) (and_from (not (is_blank b)) (unbroken word) (not_blank b clear) own.1))
-      (plain_more b word plain both.1)
+    (and_from (not (is_blank b)) (unbroken (b ∷ word)) (not_blank b clear) (and_from (not (is_blank b)) (unbroken word) (not_blank b clear) own.1))
+    (plain_more b word plain both.1)
 
 put_named : (column b : ℕ) (ws : List Word) → is_blank b ≡ false → is_plain (b ∷ []) ≡ true → are_names (word_bytes ws) ≡ true → are_names (word_bytes (put_word column b ws)) ≡ true
 put_named column b [] clear plain h = and_from (is_name (b ∷ [])) true (name_alone b clear plain) refl

@@ -7,7 +7,6 @@ one_more f n at below e = let turn : n - at ≡ suc (n - (at + 1)) = omega arith
 pub no_more : {X : Type 0} {x : X} (f : ℕ → X) (n at : ℕ) → n ≤ at → x ≡ f (n - at) → x ≡ f 0
 no_more f n at done e = let none : n - at ≡ 0 = omega arith in e ∙ ap f none
 
-
 -- a count that goes down
 pub one_less : {X : Type 0} {x : X} (f : ℕ → X) (n : ℕ) → 0 < n → x ≡ f n → x ≡ f (suc (n - 1))
 one_less f n some e = let turn : n ≡ suc (n - 1) = omega arith in e ∙ ap f turn

@@ -15,12 +15,12 @@ words_behind_blanks column [] = refl
 words_behind_blanks column (b ∷ s) =
     elim (bool_tells (is_blank b)) [
       | inl e ↦
-        let size : length (trim_front s) ≤ length s = omega (arith, (front_cut s).sizes) in
-        let at : column + 1 + (length s - length (trim_front s)) ≡ column + (suc (length s) - length (trim_front s)) = omega arith in
-        simp e (words_behind_blanks (column + 1) s ∙ ap (λ n. words_from n (trim_front s)) at)
+          let size : length (trim_front s) ≤ length s = omega (arith, (front_cut s).sizes) in
+          let at : column + 1 + (length s - length (trim_front s)) ≡ column + (suc (length s) - length (trim_front s)) = omega arith in
+          simp e (words_behind_blanks (column + 1) s ∙ ap (λ n. words_from n (trim_front s)) at)
       | inr e ↦
-        let at : column ≡ column + (suc (length s) - suc (length s)) = omega arith in
-        simp e (simp e at (ap (λ n. words_from n (b ∷ s)) at))
+          let at : column ≡ column + (suc (length s) - suc (length s)) = omega arith in
+          simp e (simp e at (ap (λ n. words_from n (b ∷ s)) at))
     ]
 
 no_word : (s : List ℕ) → begins_word s ≡ false → prefix_len in_word s ≡ 0
@@ -86,9 +86,9 @@ first_column line from start end found =
     let full : 0 < length rest = omega arith in
     let begins : begins_word rest ≡ true = begins_at (drop from line) rest found.gap full in
     let size : prefix_len in_word rest ≡ end - start =
-      sized (end - start) (prefix_len in_word rest) rest (omega arith) (prefix_len-le-length in_word rest)
-      (same_first (take (end - start) rest) (take (prefix_len in_word rest) rest) (words (drop end line)) (words (drop (prefix_len in_word rest) rest))
-      (sym found.word ∙ (sym (words-trim_front (drop from line)) ∙ (ap words found.gap ∙ (word_cut rest begins).1)))) in
+    sized (end - start) (prefix_len in_word rest) rest (omega arith) (prefix_len-le-length in_word rest)
+    (same_first (take (end - start) rest) (take (prefix_len in_word rest) rest) (words (drop end line)) (words (drop (prefix_len in_word rest) rest))
+    (sym found.word ∙ (sym (words-trim_front (drop from line)) ∙ (ap words found.gap ∙ (word_cut rest begins).1)))) in
     let end_is : drop (end - start) rest ≡ drop end line = let sum : start + (end - start) ≡ end = omega arith in drop-drop (end - start) start line ∙ ap (λ n. drop n line) sum in
     let column : start + 1 + (end - start) ≡ end + 1 = omega arith in
     words_behind_blanks (from + 1) (drop from line)

@@ -84,9 +84,10 @@ is_raw (End text) = true
 
 -- what is left behind a first line that passes the test; none where no line does
 abbrev pub behind_first : (List ℕ → Bool) → Rest → Option Rest
-behind_first test rest = elim rest.lines
-  [ [] ↦ None
-  | line ∷ lines ↦ if test line then Some (record { number = rest.number + 1; lines = lines }) else None ]
+behind_first test rest = elim rest.lines [
+  | [] ↦ None
+  | line ∷ lines ↦ if test line then Some (record { number = rest.number + 1; lines = lines }) else None
+]
 
 -- what is left behind the lines that are skipped and the one that says this; none where it says something else
 abbrev pub behind : Said → Rest → Option Rest

@@ -1,6 +1,5 @@
 -- Reading a text line by line: each step takes lines from the front, or stops with the first refusal.
 use Rattle.std.specs.Prelude.{◌≡◌, ℤ, pos, ℕ, ◌+◌, Bool, true, List, [], ◌∷◌, length, Option, Some, None, Result, Ok, Err, if◌then◌else◌, ◌==◌, int_le}
-
 use Rattle.std.specs.Str.{bytes_eq}
 use Rattle.suite_base.specs.declared.places.Place.{Place}
 use Rattle.suite_base.specs.declared.refusals.Fail.{Fail}
@@ -49,9 +48,10 @@ unless (Some refusal) = refuse refusal
 
 -- the first line as it stands; where none is left, the end of the text is at fault
 abbrev pub first_line : Rest → Outcome Line
-first_line rest = elim rest.lines
-  [ [] ↦ Err (BadScop rest.number)
-  | line ∷ lines ↦ Ok (record { number = rest.number; bytes = line }, record { number = rest.number + 1; lines = lines }) ]
+first_line rest = elim rest.lines [
+  | [] ↦ Err (BadScop rest.number)
+  | line ∷ lines ↦ Ok (record { number = rest.number; bytes = line }, record { number = rest.number + 1; lines = lines })
+]
 
 unfoldable pub any_line : Reader Line
 any_line = λ rest. first_line rest

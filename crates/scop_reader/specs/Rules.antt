@@ -326,13 +326,13 @@ extension special rule found = do
   line ← said_line
   check (is_opening (content line.bytes)) (BadScop line.number)
   if bytes_eq (opened_name (content line.bytes)) special
-    then (do
-      check (is_none found.special) (BadScop line.number)
-      made ← rule
-      pure (record found { special = Some made }))
-    else (do
-      made ← kept (opened_name (content line.bytes))
-      pure (record found { others = found.others ++ made ∷ [] }))
+      then (do
+        check (is_none found.special) (BadScop line.number)
+        made ← rule
+        pure (record found { special = Some made }))
+      else (do
+        made ← kept (opened_name (content line.bytes))
+        pure (record found { others = found.others ++ made ∷ [] }))
 
 -- n more extensions of a statement
 unfoldable pub extensions_from : ℕ → ℕ → Extensions Body → Reader (Extensions Body)
@@ -395,7 +395,7 @@ unfoldable pub parameters : ℕ → Reader (Option (List (List ℕ)))
 parameters n = do
   line ← said_line
   if bytes_eq (content line.bytes) (codes "1") then (do found ← parameter_names n; pure (Some found))
-    else (do check (bytes_eq (content line.bytes) (codes "0")) (BadScop line.number); pure None)
+      else (do check (bytes_eq (content line.bytes) (codes "0")) (BadScop line.number); pure None)
 
 -- an array's identifier, at least 1, and its name
 abbrev pub array_of : Line → List Word → Result (ℤ × List ℕ) Refusal
@@ -437,7 +437,7 @@ globals_from zero found = do
   literal close_word
   pure found
 globals_from (suc n) found = λ rest.
-  if bytes_eq (content (next_said rest)) close_word then (literal close_word >> pure found) rest
+    if bytes_eq (content (next_said rest)) close_word then (literal close_word >> pure found) rest
     else (extension arrays_name arrays found >>= globals_from n) rest
 
 unfoldable pub globals : Reader (Extensions (List (ℤ × List ℕ)))

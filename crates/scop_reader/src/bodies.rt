@@ -32,11 +32,7 @@ fn no_end(cursor: &Cursor<'_>) -> Result<(), Fail>
 }
 
 /// Takes the names of so many iterators; there is no line where there are none.
-fn iterator_names(
-    alloc: Global,
-    cursor: &mut Cursor<'_>,
-    count: usize,
-) -> Result<List<Text>, Fail>
+fn iterator_names(alloc: Global, cursor: &mut Cursor<'_>, count: usize) -> Result<List<Text>, Fail>
     ensures { Reads (spec.iterator_names count cursor.old) result cursor.new }
 {
     if count == 0 {

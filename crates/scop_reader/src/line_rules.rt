@@ -60,11 +60,7 @@ fn texts_of(alloc: Global, line: &TextLine<'_>) -> Result<List<Text>, NoMemory>
 
 /// Takes a line of so many words.
 #[tactic(auto, unfolding(crate::specs::Reading::word_line))]
-pub fn word_line(
-    alloc: Global,
-    cursor: &mut Cursor<'_>,
-    count: usize,
-) -> Result<List<Text>, Fail>
+pub fn word_line(alloc: Global, cursor: &mut Cursor<'_>, count: usize) -> Result<List<Text>, Fail>
     ensures { Reads (spec.word_line count cursor.old) result cursor.new }
 {
     let line = cursor.said_line()?;

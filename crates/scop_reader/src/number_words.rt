@@ -71,5 +71,9 @@ pub fn kind_number(line: &TextLine<'_>, word: &TextWord<'_>) -> Result<i128, Fai
 pub fn kind_from(n: i128) -> RowKind
     ensures { result ≡ kind_of n }
 {
-    if n == 0 { RowKind::Equal } else { RowKind::AtLeast }
+    if n == 0 {
+        RowKind::Equal
+    } else {
+        RowKind::AtLeast
+    }
 }

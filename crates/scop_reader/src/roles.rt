@@ -5,7 +5,16 @@
 #[derive(Clone, Copy, Debug, PartialEq, Eq)]
 pub enum Role {
     Context,
-    Domain { parameters: usize, iterators: Option<usize> },
-    Scattering { parameters: usize, iterators: usize },
-    Access { parameters: usize, iterators: usize },
+    Domain {
+        parameters: usize,
+        iterators: Option<usize>,
+    },
+    Scattering {
+        parameters: usize,
+        iterators: usize,
+    },
+    Access {
+        parameters: usize,
+        iterators: usize,
+    },
 }

@@ -6,7 +6,7 @@ use Rattle.scop_reader.proofs.kept_lines.kept_lines.Given as goal
 abbrev pub invariant-loop-line : goal.invariant-loop-line
 invariant-loop-line l = record {
   kept : kept_lines l.name l.fn.cursor ≡ kept_from l.name l.cursor.number l.found l.cursor.lines;
-  last : l.last ≡ end_line l.name
+  last : l.last ≡ end_line l.name;
 }
 
 abbrev pub decreases-loop-line : goal.decreases-loop-line

@@ -5,5 +5,5 @@ use Rattle.scop_reader.proofs.part_rules.rows_of.Given as goal
 abbrev pub invariant-loop-turn : goal.invariant-loop-turn
 invariant-loop-turn l = record {
   rows : rows_from l.columns l.rows [] l.fn.cursor ≡ rows_from l.columns (l.rows - l._turn) l.part.rows l.cursor;
-  shape : l.part.shape ≡ l.fn.part.shape
+  shape : l.part.shape ≡ l.fn.part.shape;
 }
