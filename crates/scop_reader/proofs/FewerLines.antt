@@ -112,10 +112,10 @@ global_fewer found next rest now e =
     let line = t.value in
     let name = opened_name (content line.bytes) in
     let behind : length now.lines ≤ length t.mid.lines =
-      bind_fewer (check (is_opening (content line.bytes)) (BadScop line.number)) _ (check_fewer (is_opening (content line.bytes)) (BadScop line.number)) (λ _.
-      choice_fewer (bytes_eq name arrays_name) _ _
-        (bind_fewer (check (is_none found.special) (BadScop line.number)) _ (check_fewer (is_none found.special) (BadScop line.number)) (λ _.
-         bind_fewer arrays _ arrays_fewer (λ made. pure_fewer (record found { special = Some made }))))
-        (bind_fewer (kept name) _ (kept_fewer name) (λ made. pure_fewer (record found { others = found.others ++ made ∷ [] }))))
-      t.mid now next t.second in
+    bind_fewer (check (is_opening (content line.bytes)) (BadScop line.number)) _ (check_fewer (is_opening (content line.bytes)) (BadScop line.number)) (λ _.
+    choice_fewer (bytes_eq name arrays_name) _ _
+    (bind_fewer (check (is_none found.special) (BadScop line.number)) _ (check_fewer (is_none found.special) (BadScop line.number)) (λ _.
+    bind_fewer arrays _ arrays_fewer (λ made. pure_fewer (record found { special = Some made }))))
+    (bind_fewer (kept name) _ (kept_fewer name) (λ made. pure_fewer (record found { others = found.others ++ made ∷ [] }))))
+    t.mid now next t.second in
     omega (arith, behind, said_fewer rest t.mid line t.first)

@@ -42,11 +42,7 @@ fn no_more(cursor: &Cursor<'_>) -> Result<(), Fail>
 
 /// Takes the names of so many parameters between the lines that hold them.
 #[tactic(auto, unfolding(crate::specs::Rules::parameter_names))]
-fn parameter_names(
-    alloc: Global,
-    cursor: &mut Cursor<'_>,
-    count: usize,
-) -> Result<List<Text>, Fail>
+fn parameter_names(alloc: Global, cursor: &mut Cursor<'_>, count: usize) -> Result<List<Text>, Fail>
     ensures { Reads (spec.parameter_names count cursor.old) result cursor.new }
 {
     literal(cursor, b"<strings>")?;
