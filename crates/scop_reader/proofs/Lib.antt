@@ -21,5 +21,6 @@ pub mod KeptLines
 pub mod GrammarPrinted
 pub mod GrammarSpelled
 pub mod GrammarGood
+pub mod GrammarFormed
 pub mod GrammarLayout
 mod Checks
