@@ -23,4 +23,5 @@ pub mod GrammarSpelled
 pub mod GrammarGood
 pub mod GrammarFormed
 pub mod GrammarLayout
+pub mod GrammarHeld
 mod Checks
