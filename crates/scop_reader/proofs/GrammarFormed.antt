@@ -71,7 +71,7 @@ length_negative (x ∷ a) = ap suc (length_negative a)
 -- ---- rows
 
 -- so many entries, and each is a coefficient
-abbrev RowHeld : ℕ → PartRow → Type 0
+abbrev pub RowHeld : ℕ → PartRow → Type 0
 RowHeld w row = (length row.entries ≡ w) × AreSmall row.entries
 
 coefficients : (a : List ℤ) → AreSmall a → AreCoefficients a
@@ -87,7 +87,7 @@ row_range w [] k h = coefficients [] tt
 row_range w (row ∷ rows) zero h = coefficients row.entries h.0.1
 row_range w (row ∷ rows) (suc k) h = row_range w rows k h.1
 
-formed : (shape : Shape) (rows : List PartRow) → HasLimits shape → AllByRecursion (RowHeld (width shape)) rows → IsWellFormed shape rows
+pub formed : (shape : Shape) (rows : List PartRow) → HasLimits shape → AllByRecursion (RowHeld (width shape)) rows → IsWellFormed shape rows
 formed shape rows limits h = record {
   limits = limits;
   widths = λ k below. row_width (width shape) rows k h below;

@@ -1,10 +1,8 @@
 -- Pieces that types hold give SCoPs that do, and the pieces of a text are such.
-use Rattle.std.proofs.Common.{◌≡◌, refl, sym, ap, subst, ◌∙◌, Option, Some, None, ℕ, ℤ, pos, unsigned_abs, ◌+◌, ◌^◌, ◌≤◌, ◌<◌, zero, suc, List, [], ◌∷◌, ◌++◌, length, map, Bool, true, false, ◌&&◌, ◌==◌, ◌⊎◌, inl, inr, arith}
-use Rattle.std.specs.Prelude.{nat_lt, if◌then◌else◌, IfSome, All}
-use Rattle.std.specs.List.{flat_map, AllByRecursion}
-use Rattle.std.proofs.lemmas.Bool.{and_parts, and_from}
-use Rattle.std.proofs.lemmas.Bool.Decides.{Decides-eqb, leb_tells}
-use Rattle.std.proofs.lemmas.List.{length-append}
+use Rattle.std.proofs.Common.{◌≡◌, refl, sym, subst, Option, Some, None, ℕ, ◌+◌, List, [], ◌∷◌, length, map, Bool, true, false}
+use Rattle.std.specs.Prelude.{if◌then◌else◌, IfSome, All}
+use Rattle.std.specs.List.{AllByRecursion}
+use Rattle.std.proofs.lemmas.Bool.{and_parts}
 use Rattle.std.proofs.lemmas.List.Elements.{All-from_recursion, recursion_from_All}
 use Rattle.relation_core.specs.Systems.{System, IsWellFormed}
 use Rattle.scop_core.specs.declared.accesses.AccessKind.{AccessKind}
@@ -15,7 +13,7 @@ use Rattle.scop_core.specs.declared.raw_pieces.RawStatement.{RawStatement}
 use Rattle.scop_core.specs.declared.raw_pieces.ScopPieces.{ScopPieces}
 use Rattle.scop_core.specs.SolvedRows.{schedule_part, access_part, HasRelation, HasAccessRelation}
 use Rattle.scop_core.specs.SolvedForm.{is_scattering, is_access, schedule_of, access_of}
-use Rattle.scop_core.specs.Assembly.{or_else, whole_limit, first_limit, early_refusal_of, first_clash, is_one, the_part, are_solved, is_solved, first_unsolved, iterators_of, body_from, solved_accesses, solved_statement, solved_statements, refusal_of, scop_of, HasInputs, HasNames, HasShapes}
+use Rattle.scop_core.specs.Assembly.{or_else, whole_limit, first_limit, early_refusal_of, first_clash, is_one, the_part, are_solved, is_solved, first_unsolved, iterators_of, body_from, solved_accesses, solved_statement, solved_statements, refusal_of, scop_of, HasInputs, HasShapes}
 use Rattle.scop_core.specs.Printable.{IsPrintable}
 use Rattle.scop_core.specs.ReadBack.{access_piece, statement_pieces as printed_statement, pieces_of as printed_pieces}
 use Rattle.scop_core.specs.Validity.{HasRelations, IsValid}

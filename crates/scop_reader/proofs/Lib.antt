@@ -24,4 +24,6 @@ pub mod GrammarGood
 pub mod GrammarFormed
 pub mod GrammarLayout
 pub mod GrammarHeld
+pub mod GrammarRanges
+pub mod GrammarReadBack
 mod Checks

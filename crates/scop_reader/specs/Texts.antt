@@ -132,3 +132,7 @@ pub record IsHeld (pieces : ScopPieces) : Type 0 where
 -- what is printed of a valid SCoP is a text of that SCoP
 abbrev pub LayoutReadsBack : Type 0
 LayoutReadsBack = (scop : ScopData) → IsValid scop → IsHeld (printed_pieces scop) → IsScopText (layout scop) scop
+
+-- what is printed of the SCoP of a text is a text of that SCoP
+abbrev pub TextsReadBack : Type 0
+TextsReadBack = (bytes : List ℕ) (scop : ScopData) → length bytes < 2 ^ 64 → IsScopText bytes scop → IsScopText (layout scop) scop

@@ -1,5 +1,4 @@
 use Rattle.scop_reader.proofs.GrammarLayout.{layout_reads_back_law}
-use Rattle.scop_reader.proofs.GrammarHeld.{scop_held}
 use Rattle.scop_reader.proofs.laws.layout_reads_back.Goals as goal
 
 pub returns : goal.returns
