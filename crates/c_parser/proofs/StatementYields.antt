@@ -1,32 +1,28 @@
 -- The rules of statements read what their productions derive.
-use Rattle.std.proofs.Common.{◌≡◌, ℕ, zero, suc, ◌+◌, ◌-◌, ◌≤◌, ◌<◌, ◌==◌, Bool, true, false, if◌then◌else◌, List, [], ◌∷◌, ◌++◌, Option, Some, None, Result, Ok, Err, inl, inr, refl, ap, sym, subst, ◌∙◌, arith, append_assoc}
+use Rattle.std.proofs.Common.{◌≡◌, ℕ, zero, suc, ◌<◌, ◌==◌, Bool, true, false, if◌then◌else◌, List, [], ◌∷◌, ◌++◌, Option, Some, None, Ok, inl, inr, refl, ap, sym, subst, ◌∙◌, arith, append_assoc}
 use Rattle.std.proofs.lemmas.List.{append-nil}
 use Rattle.std.specs.Str.{bytes_eq}
 use Rattle.std.proofs.lemmas.Slice.Eq.{bytes_eq-Decides}
-use Rattle.c_lexer.specs.Readings.{Reading, slice}
+use Rattle.c_lexer.specs.Readings.{Reading}
 use Rattle.c_parser.specs.declared.symbols.Symbol.{Symbol}
 use Rattle.c_parser.specs.declared.symbols.Symbol.TheVariants as s
 use Rattle.c_parser.specs.declared.tree.Piece.{Piece}
-use Rattle.c_parser.specs.declared.tree.Rel.{Rel}
 use Rattle.c_parser.specs.declared.tree.Sum.{Sum}
 use Rattle.c_parser.specs.declared.tree.Step.{Step}
-use Rattle.c_parser.specs.declared.tree.Step.TheVariants as st
 use Rattle.c_parser.specs.declared.tree.AssignSign.{AssignSign}
-use Rattle.c_parser.specs.declared.tree.AssignSign.TheVariants as sign
-use Rattle.c_parser.specs.declared.tree.Assign.{Assign}
 use Rattle.c_parser.specs.declared.tree.Node.{Node}
 use Rattle.c_parser.specs.declared.tree.Node.TheVariants as node
 use Rattle.c_parser.specs.declared.heads.Head.{Head}
 use Rattle.c_parser.specs.Symbols.{same_symbol}
-use Rattle.c_parser.specs.Input.{Outcome, Parser, and_then, ◌>>=◌, ◌>>◌, ◌<$>◌, pure, refuse, peek, position, take_token, eat, expect, open_nest, left, symbol, start, piece, after, after_if, sees}
-use Rattle.c_parser.specs.Values.{rel_sign, below, value, target}
-use Rattle.c_parser.specs.Statements.{assign_sign, is_name, sees_name, same_name, is_upward, some_of, rel, assigned, step_sign, add_sign, pre_step, post_step, number_step, step_behind, step, open_round, head_rest, head, assign, open_loop, begins_statement, loop_of, branch_of, block_from, for_loop, branch, else_branch, if_branch, block_nodes, block, statement_by, statement_rule, level, statement, inner, body, region_from, region}
+use Rattle.c_parser.specs.Input.{Parser, ◌>>=◌, ◌>>◌, pure, refuse, eat, expect, left, symbol, start, piece, after, sees}
+use Rattle.c_parser.specs.Values.{rel_sign, below}
+use Rattle.c_parser.specs.Statements.{assign_sign, is_name, sees_name, same_name, is_upward, some_of, rel, assigned, add_sign, pre_step, post_step, number_step, step_behind, step, open_round, head_rest, head, assign, open_loop, begins_statement, block_from, for_loop, branch, else_branch, if_branch, block_nodes, block, statement_by, statement_rule, level, statement, inner, region_from, region}
 use Rattle.c_parser.specs.Grammar as g
 use Rattle.c_parser.specs.Grammar.{Phrase, ◌then◌, token, word, empty, each, rel_token, nested}
 use Rattle.c_parser.specs.Derivations as d
 use Rattle.c_parser.specs.Derivations.{assign_token, bytes_of, same, is_up, Derived}
-use Rattle.c_parser.proofs.TokenFacts.{seen, is_same, not_same, some_is, not_true, not_seen, left_after}
-use Rattle.c_parser.proofs.Yields.{Yields, then_yields, take_yields, if_yields, choose_yields, expect_yields, yields_so, opened, eat_yields, some_nests, Takes, then_takes, take_takes, open_takes, opened_takes, takes_yields}
+use Rattle.c_parser.proofs.TokenFacts.{seen, is_same, some_is, not_seen, left_after}
+use Rattle.c_parser.proofs.Yields.{Yields, then_yields, if_yields, choose_yields, expect_yields, yields_so, opened, eat_yields, some_nests, Takes, then_takes, take_takes, open_takes, opened_takes, takes_yields}
 use Rattle.c_parser.proofs.ValueYields.{rel_back, target_takes, value_yields, nested_sound}
 
 pub assign_back : (k : Symbol) (x : AssignSign) → assign_sign k ≡ Some x → k ≡ assign_token x

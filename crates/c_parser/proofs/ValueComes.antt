@@ -1,25 +1,23 @@
 -- The rules of values come to each tree that their productions derive.
-use Rattle.std.proofs.Common.{◌≡◌, ℕ, zero, suc, ◌+◌, ◌≤◌, ◌<◌, Bool, true, false, if◌then◌else◌, List, [], ◌∷◌, ◌++◌, Option, Some, None, Result, Ok, Err, inl, inr, refl, ap, sym, subst, ◌∙◌, arith, append_assoc}
-use Rattle.std.specs.Prelude.{◌⊎◌}
+use Rattle.std.proofs.Common.{◌≡◌, ℕ, zero, suc, ◌≤◌, ◌<◌, if◌then◌else◌, List, [], ◌∷◌, ◌++◌, Option, Some, None, inl, inr, refl, ap, sym, subst, ◌∙◌, arith, append_assoc}
 use Rattle.std.proofs.lemmas.List.{append-nil}
 use Rattle.c_lexer.specs.Readings.{Reading}
-use Rattle.c_parser.specs.declared.symbols.Symbol.{Symbol}
 use Rattle.c_parser.specs.declared.symbols.Symbol.TheVariants as s
 use Rattle.c_parser.specs.declared.tree.Piece.{Piece}
-use Rattle.c_parser.specs.declared.tree.Value.{Value, roll-Value}
-use Rattle.c_parser.specs.declared.tree.Arms.{Arms, roll-Arms}
-use Rattle.c_parser.specs.declared.tree.Or.{Or, roll-Or}
-use Rattle.c_parser.specs.declared.tree.And.{And, roll-And}
-use Rattle.c_parser.specs.declared.tree.Equal.{Equal, roll-Equal}
+use Rattle.c_parser.specs.declared.tree.Value.{Value}
+use Rattle.c_parser.specs.declared.tree.Arms.{Arms}
+use Rattle.c_parser.specs.declared.tree.Or.{Or}
+use Rattle.c_parser.specs.declared.tree.And.{And}
+use Rattle.c_parser.specs.declared.tree.Equal.{Equal}
 use Rattle.c_parser.specs.declared.tree.EqualSign.{EqualSign}
 use Rattle.c_parser.specs.declared.tree.EqualSign.TheVariants as eq
-use Rattle.c_parser.specs.declared.tree.Compare.{Compare, roll-Compare}
+use Rattle.c_parser.specs.declared.tree.Compare.{Compare}
 use Rattle.c_parser.specs.declared.tree.Rel.{Rel}
 use Rattle.c_parser.specs.declared.tree.Rel.TheVariants as rl
-use Rattle.c_parser.specs.declared.tree.Sum.{Sum, roll-Sum}
+use Rattle.c_parser.specs.declared.tree.Sum.{Sum}
 use Rattle.c_parser.specs.declared.tree.SumSign.{SumSign}
 use Rattle.c_parser.specs.declared.tree.SumSign.TheVariants as sm
-use Rattle.c_parser.specs.declared.tree.Product.{Product, roll-Product}
+use Rattle.c_parser.specs.declared.tree.Product.{Product}
 use Rattle.c_parser.specs.declared.tree.ProductSign.{ProductSign}
 use Rattle.c_parser.specs.declared.tree.ProductSign.TheVariants as pr
 use Rattle.c_parser.specs.declared.tree.Unary.{Unary, roll-Unary}
@@ -28,15 +26,13 @@ use Rattle.c_parser.specs.declared.tree.UnarySign.TheVariants as un
 use Rattle.c_parser.specs.declared.tree.Primary.{Primary}
 use Rattle.c_parser.specs.declared.tree.Primary.TheVariants as pri
 use Rattle.c_parser.specs.declared.tree.Target.{Target, roll-Target}
-use Rattle.c_parser.specs.Symbols.{same_symbol}
-use Rattle.c_parser.specs.Input.{Outcome, Parser, and_then, ◌>>=◌, ◌>>◌, ◌<$>◌, pure, refuse, peek, position, take_token, eat, expect, open_nest, left, symbol, start, piece, after, after_if, sees}
-use Rattle.c_parser.specs.Values.{Rules, no_rules, signed_from, separated_from, separated, equal_sign, rel_sign, sum_sign, product_sign, unary_sign, subscript, subscripts_from, subscripts, target, arguments, call, named, operator, bracket, primary_by, primary, operand, unary_by, unary, product_rest, product, sum_rest, sum, compare_rest, compare, equal_rest, equal, and_value, or_value, arms, value, rules, below}
+use Rattle.c_parser.specs.Input.{◌>>=◌, ◌>>◌, pure, expect, left, symbol, piece, after}
+use Rattle.c_parser.specs.Values.{Rules, separated, equal_sign, rel_sign, sum_sign, product_sign, unary_sign, subscript, subscripts_from, subscripts, target, arguments, call, named, operator, bracket, primary_by, primary, operand, unary, product_rest, product, sum_rest, sum, compare_rest, compare, equal_rest, equal, and_value, or_value, arms, value, rules, below}
 use Rattle.c_parser.specs.Grammar as g
 use Rattle.c_parser.specs.Grammar.{Phrase, ◌then◌, token, word, empty, each, signed, others, equal_token, rel_token, sum_token, product_token, unary_token, Forms, no_forms, nested}
-use Rattle.c_parser.proofs.Yields.{Yields, Takes, IsToken}
 use Rattle.c_parser.proofs.ValueYields as y
 use Rattle.c_parser.proofs.ValueYields.{nested_sound}
-use Rattle.c_parser.proofs.Comes.{token_then, word_then, power, ends, no_product, no_sum, no_rel, no_equal, other, weak_token, Comes, Room, less_room, then_comes, goes_on, goes_far, expect_comes, word_comes, opened_comes, eat_yes, eat_no, choose_yes, choose_no, signed_ends, signed_comes, separated_comes}
+use Rattle.c_parser.proofs.Comes.{token_then, word_then, power, ends, no_product, no_sum, no_rel, no_equal, other, Comes, Room, less_room, then_comes, goes_far, expect_comes, word_comes, opened_comes, eat_yes, eat_no, choose_yes, choose_no, signed_ends, signed_comes, separated_comes}
 
 -- ---- signs from their tokens
 

@@ -20,6 +20,7 @@ use Rattle.scop_core.specs.SolvedForm.{local_column, affine_of, first_row, outpu
 use Rattle.scop_core.proofs.ReadBackLists.{length_unit, length_raised}
 use Rattle.scop_core.proofs.ReadBackRows.{Fits, first}
 use Rattle.scop_core.proofs.SolvedPieces.{solved_is_solved, access_is_solved}
+use Rattle.scop_reader.specs.Texts.{IsFormed}
 use Rattle.scop_reader.proofs.GrammarPrinted.{AreSmall}
 
 -- ---- lists of coefficients
@@ -154,9 +155,6 @@ first_small test (row ∷ rows) h =
 signed_small : (b : Bool) (row : List ℤ) → AreSmall row → AreSmall (if b then map neg_ℤ row else row)
 signed_small true row h = small_negative row h
 signed_small false row h = h
-
-abbrev IsFormed : System → Type 0
-IsFormed p = IsWellFormed p.shape p.rows
 
 value_small : (part : System) (k : ℕ) → IsFormed part → SmallAffine (value_at part k)
 value_small part k f =

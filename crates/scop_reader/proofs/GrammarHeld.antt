@@ -4,7 +4,7 @@ use Rattle.std.specs.Prelude.{if◌then◌else◌, IfSome, All}
 use Rattle.std.specs.List.{AllByRecursion}
 use Rattle.std.proofs.lemmas.Bool.{and_parts}
 use Rattle.std.proofs.lemmas.List.Elements.{All-from_recursion, recursion_from_All}
-use Rattle.relation_core.specs.Systems.{System, IsWellFormed}
+use Rattle.relation_core.specs.Systems.{System}
 use Rattle.scop_core.specs.declared.accesses.AccessKind.{AccessKind}
 use Rattle.scop_core.specs.declared.accesses.Access.{Access}
 use Rattle.scop_core.specs.declared.statements.Body.{Body}
@@ -19,12 +19,9 @@ use Rattle.scop_core.specs.ReadBack.{access_piece, statement_pieces as printed_s
 use Rattle.scop_core.specs.Validity.{HasRelations, IsValid}
 use Rattle.scop_core.proofs.ReadBackNames.{default_count}
 use Rattle.scop_core.proofs.SolvedPieces.{solved_is_solved, access_is_solved}
-use Rattle.scop_reader.specs.Texts.{StatementIsHeld, IsHeld}
+use Rattle.scop_reader.specs.Texts.{IsFormed, StatementIsHeld, IsHeld}
 use Rattle.scop_reader.proofs.GrammarProper.{no_first}
 use Rattle.scop_reader.proofs.GrammarFormed.{scattering_formed, access_part_formed}
-
-abbrev pub IsFormed : System → Type 0
-IsFormed p = IsWellFormed p.shape p.rows
 
 -- ---- one solved part
 
@@ -96,8 +93,8 @@ statement_held p k raw shapes solved held =
     let shape = one_of is_scattering (HasInputs n p) raw.scattering both.0 (recursion_from_All (HasInputs n p) raw.scattering shapes.scattering) in
     let schedule : ScheduleHeld i p (the_part raw.scattering) = subst (λ (m : ℕ). ScheduleHeld m p (the_part raw.scattering)) same (schedule_held n p (the_part raw.scattering) part.1 part.0 shape.1) in
     let accesses : AccessesHeld i p (solved_accesses raw.accesses) = subst (λ (m : ℕ). AccessesHeld m p (solved_accesses raw.accesses)) same
-        (accesses_held n p raw.accesses both.1 (recursion_from_All (λ (a : AccessKind × List System). All (HasInputs n p) a.1) raw.accesses shapes.accesses)
-            (recursion_from_All (λ (a : AccessKind × List System). All IsFormed a.1) raw.accesses held.accesses)) in
+    (accesses_held n p raw.accesses both.1 (recursion_from_All (λ (a : AccessKind × List System). All (HasInputs n p) a.1) raw.accesses shapes.accesses)
+    (recursion_from_All (λ (a : AccessKind × List System). All IsFormed a.1) raw.accesses held.accesses)) in
     record {
       relations = record {
         schedule = schedule.relation;

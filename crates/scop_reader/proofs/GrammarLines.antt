@@ -1,5 +1,5 @@
 -- Readers taken apart step by step, and what is left behind the lines that say something.
-use Rattle.std.proofs.Common.{◌≡◌, refl, sym, ap, subst, ◌∙◌, Option, Some, None, ℕ, ◌+◌, ◌≤◌, ◌<◌, suc, List, [], ◌∷◌, ◌++◌, length, Result, Ok, Err, Bool, true, false, ◌&&◌, ◌==◌, ◌⊎◌, inl, inr, arith}
+use Rattle.std.proofs.Common.{not, ◌≡◌, refl, sym, ap, subst, ◌∙◌, Option, Some, None, ℕ, ◌+◌, ◌≤◌, ◌<◌, suc, List, [], ◌∷◌, ◌++◌, length, Result, Ok, Err, Bool, true, false, ◌&&◌, ◌==◌, ◌⊎◌, inl, inr, arith}
 use Rattle.std.specs.Prelude.{if◌then◌else◌}
 use Rattle.std.proofs.lemmas.Bool.{and_parts, eqb-true}
 use Rattle.suite_base.specs.declared.refusals.Refusal.{Refusal}
@@ -12,8 +12,9 @@ use Rattle.scop_reader.specs.Documents.{Said, says, is_raw, behind_first, behind
 
 -- ---- tests
 
-pub true_not_false : {X : Type 0} → true ≡ false → X
-true_not_false e = absurd (cc)
+pub false_of : (b : Bool) → not b ≡ true → b ≡ false
+false_of true e = absurd (cc)
+false_of false e = refl
 
 pub if_cases : {A : Type 0} (b : Bool) (x y z : A) → (if b then x else y) ≡ z → ((b ≡ true) × (x ≡ z)) ⊎ ((b ≡ false) × (y ≡ z))
 if_cases true x y z e = inl (refl, e)
@@ -31,6 +32,11 @@ pub record Then {A B : Type 0} (o : Outcome A) (f : A → Reader B) (z : Outcome
 pub then_ok : {A B : Type 0} (o : Outcome A) (f : A → Reader B) (b : B) (now : Rest) → and_then o f ≡ Ok (b, now) → Then o f (Ok (b, now))
 then_ok (Ok p) f b now e = record { value = p.0; mid = p.1; first = refl; second = e }
 then_ok (Err r) f b now e = absurd (cc)
+
+-- steps that are grouped otherwise
+pub regroup : {A B C : Type 0} (o : Outcome A) (f : A → Reader B) (g : B → Reader C) (z : Outcome C) → and_then (and_then o f) g ≡ z → and_then o (λ a r. and_then (f a r) g) ≡ z
+regroup (Ok p) f g z e = e
+regroup (Err r) f g z e = e
 
 pub check_then : {B : Type 0} (holds : Bool) (r : Refusal) (rest : Rest) (f : Unit {0} → Reader B) (b : B) (now : Rest) → and_then (check holds r rest) f ≡ Ok (b, now) → (holds ≡ true) × (f tt rest ≡ Ok (b, now))
 check_then true r rest f b now e = (refl, e)
@@ -240,7 +246,7 @@ first_fewer test n (l ∷ ls) now e =
       | inr other ↦ absurd (let no : None ≡ Some now = other.1 in cc)
     ]
 
-silent_fewer : (n : ℕ) (ls : List (List ℕ)) → length (behind_silent n ls).lines ≤ length ls
+pub silent_fewer : (n : ℕ) (ls : List (List ℕ)) → length (behind_silent n ls).lines ≤ length ls
 silent_fewer n [] = omega arith
 silent_fewer n (l ∷ ls) =
     elim (bool_tells (is_silent l)) [

@@ -1,10 +1,10 @@
 -- The pieces of a text are such as types hold: each number in it is in range, and it has more bytes than extensions.
-use Rattle.std.proofs.Common.{◌≡◌, refl, sym, subst, ◌∙◌, Some, None, ℕ, ℤ, unsigned_abs, ◌+◌, ◌^◌, ◌≤◌, ◌<◌, suc, List, [], ◌∷◌, ◌++◌, length, map, true, false, ◌&&◌, ◌==◌, inl, inr, arith}
-use Rattle.std.specs.Prelude.{nat_lt, IfSome, All, codes}
+use Rattle.std.proofs.Common.{◌≡◌, refl, sym, subst, Some, None, ℕ, ℤ, unsigned_abs, ◌+◌, ◌^◌, ◌≤◌, ◌<◌, suc, List, [], ◌∷◌, ◌++◌, length, map, true, ◌&&◌, ◌==◌, inl, inr, arith}
+use Rattle.std.specs.Prelude.{IfSome, All, codes}
 use Rattle.std.specs.List.{flat_map, AllByRecursion}
 use Rattle.std.specs.Str.{bytes_eq}
 use Rattle.std.proofs.lemmas.Bool.{and_parts}
-use Rattle.std.proofs.lemmas.Bool.Decides.{Decides-eqb, leb_tells, nat_tests}
+use Rattle.std.proofs.lemmas.Bool.Decides.{nat_tests}
 use Rattle.std.proofs.lemmas.List.{length-append}
 use Rattle.std.proofs.lemmas.List.Elements.{All-from_recursion}
 use Rattle.suite_base.specs.declared.numbers.NumberRead.TheVariants.{Value, TooLarge, NotNumber}
@@ -24,7 +24,7 @@ use Rattle.scop_reader.specs.declared.roles.Role.TheVariants.{Context, Domain, S
 use Rattle.scop_reader.specs.Lines.{Rest, words_of, word_bytes}
 use Rattle.scop_reader.specs.Rules.{suits, role_behind, most_outputs, outputs_of_first, from_open, open_word}
 use Rattle.scop_reader.specs.Documents.{Said, Literal, Words, Numbers, Entry, Closing, Raw, End, is_value, are_numbers, is_entry, behind, behind_all, Item, Special, Kept, Parts, StatementText, Document, count, said_row, said_part, said_count, said_relation, said_access, said_item, said_body, said_array, said_arrays, said_statement, said_parameters, said_context, said_document, first_special, kept_items, access_pieces, statement_pieces, pieces_of}
-use Rattle.scop_reader.specs.Texts.{are_wide, StatementIsHeld, IsHeld, IsTextOf, IsTextOfPieces}
+use Rattle.scop_reader.specs.Texts.{IsFormed, are_wide, StatementIsHeld, IsHeld, IsTextOf, IsTextOfPieces}
 use Rattle.scop_reader.proofs.GrammarLines.{behind_line, split_one, behind_fewer}
 use Rattle.scop_reader.proofs.GrammarWords.{value_is}
 use Rattle.scop_reader.proofs.GrammarPrinted.{AreSmall}
@@ -32,10 +32,9 @@ use Rattle.scop_reader.proofs.GrammarParts.{Fits}
 use Rattle.scop_reader.proofs.GrammarRelations.{AllFit, IsRelation, AreAccesses}
 use Rattle.scop_reader.proofs.GrammarStatements.{StatementFits, StatementsFit}
 use Rattle.scop_reader.proofs.GrammarWhole.{DocumentFits}
-use Rattle.scop_reader.proofs.GrammarConditions.{low_of}
+use Rattle.scop_reader.proofs.GrammarConditions.{most, is_equal, low_of}
 use Rattle.scop_reader.proofs.GrammarProper.{document_fits}
 use Rattle.scop_reader.proofs.GrammarFormed.{RowHeld, formed}
-use Rattle.scop_reader.proofs.GrammarHeld.{IsFormed}
 
 -- ---- the numbers of a line that was read
 
@@ -101,13 +100,6 @@ parts_of_all (said ∷ a) b h = let more = parts_of_all a b h.1 in ((h.0, more.0
 
 -- ---- parts
 
-most : (n m : ℕ) → nat_lt n m ≡ false → m ≤ n
-most n m e =
-    elim (leb_tells (suc n) m) [
-      | inl above ↦ absurd (let no : true ≡ false = sym above.0 ∙ e in cc)
-      | inr below ↦ let low : m < suc n = below.1 in omega arith
-    ]
-
 -- the inputs that a part of this role has are few
 abbrev FewInputs : Role → Type 0
 FewInputs Context = Unit {0}
@@ -127,9 +119,6 @@ most_few Context = omega arith
 most_few (Domain parameters iterators) = omega arith
 most_few (Scattering parameters iterators) = omega arith
 most_few (Access parameters iterators) = omega arith
-
-is_equal : (a b : ℕ) → (a == b) ≡ true → a ≡ b
-is_equal a b e = (Decides-eqb a b).0 e
 
 few_inputs : (role : Role) (shape : Shape) → FewInputs role → suits role shape ≡ true → shape.inputs ≤ 65536
 few_inputs Context shape h e =
@@ -159,7 +148,7 @@ part_formed role k p fits few small =
     let locals : p.shape.locals ≤ 24 = most 24 p.shape.locals low.locals in
     let parameters : p.shape.parameters ≤ 16 = most 16 p.shape.parameters low.parameters in
     formed p.shape p.rows (record { outputs = omega (arith, most_few role); inputs = few_inputs role p.shape few fits.suited; locals = omega arith; parameters = omega arith })
-        (rows_held (width p.shape) p.rows fits.wide small.1)
+    (rows_held (width p.shape) p.rows fits.wide small.1)
 
 parts_formed : (role : Role) (k : ℕ) (ps : List System) → AllFit role k ps → FewInputs role → AllByRecursion SmallSaid (flat_map said_part ps) → AllByRecursion IsFormed ps
 parts_formed role k [] fit few small = tt
@@ -286,8 +275,16 @@ document_held bytes d short fits text =
     let four = parts_of_all items close three.1 in
     let own = parts_of_all (said_count d.is_counted 1) (said_part d.context ++ []) one.0.1 in
     let context = parts_of_all (said_part d.context) [] own.1 in
-    let long : length statements < 2 ^ 64 = omega (arith, short, lines_few bytes, from_open_few 1 (lines bytes), saids_few (said_document d) start text.rest text.said,
-        length-append (said_context d) (said_parameters d.parameters ++ counted), length-append (said_parameters d.parameters) counted, length-append statements (items ++ close)) in
+    let long : length statements < 2 ^ 64 = omega (
+      arith,
+      short,
+      lines_few bytes,
+      from_open_few 1 (lines bytes),
+      saids_few (said_document d) start text.rest text.said,
+      length-append (said_context d) (said_parameters d.parameters ++ counted),
+      length-append (said_parameters d.parameters) counted,
+      length-append statements (items ++ close),
+    ) in
     record {
       context = part_formed Context 0 d.context fits.context tt context.0;
       statements = All-from_recursion StatementIsHeld (map statement_pieces d.statements) (statements_held ps 1 d.statements fits.statements three.0 long);

@@ -1,3 +1,11 @@
+pub mod LineExtents
+pub mod ReadingLemmas
+pub mod WordColumns
+pub mod NumberRuns
+pub mod Turns
+pub mod LastBytes
+pub mod NameLines
+pub mod KeptLines
 pub mod GrammarLines
 pub mod GrammarWords
 pub mod GrammarParts
@@ -10,14 +18,11 @@ pub mod GrammarStatements
 pub mod GrammarWhole
 pub mod GrammarConditions
 pub mod GrammarProper
-pub mod LineExtents
-pub mod ReadingLemmas
-pub mod WordColumns
-pub mod NumberRuns
-pub mod Turns
-pub mod LastBytes
-pub mod NameLines
-pub mod KeptLines
+mod Checks
+pub mod FewerLines
+pub mod GlobalTurns
+pub mod OpenLines
+pub mod ReadScops
 pub mod GrammarPrinted
 pub mod GrammarSpelled
 pub mod GrammarGood
@@ -26,4 +31,3 @@ pub mod GrammarLayout
 pub mod GrammarHeld
 pub mod GrammarRanges
 pub mod GrammarReadBack
-mod Checks

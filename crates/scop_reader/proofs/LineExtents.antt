@@ -1,5 +1,5 @@
 -- The lines of a text take no more bytes than the text.
-use Rattle.std.proofs.Common.{◌≡◌, ℕ, Bool, true, false, List, [], ◌∷◌, ◌+◌, ◌==◌, ◌⊎◌, inl, inr, refl, sym, ap, length, max, ◌≤◌, ◌<◌, ◌∙◌, arith}
+use Rattle.std.proofs.Common.{ℕ, List, [], ◌∷◌, ◌+◌, ◌==◌, inl, inr, length, ◌≤◌, arith}
 use Rattle.suite_base.specs.Lines.{lines, put}
 use Rattle.suite_base.proofs.LineCuts.{bool_tells}
 use Rattle.scop_reader.specs.Lines.{extent}

@@ -1,5 +1,5 @@
 -- How the steps of a cursor join to the readers of lines.
-use Rattle.std.proofs.Common.{◌≡◌, ℕ, true, false, List, [], ◌∷◌, ◌+◌, refl, sym, ap, subst, ◌∙◌, Option, Some, None, Ok, Err}
+use Rattle.std.proofs.Common.{◌≡◌, ℕ, true, false, List, [], refl, sym, ap, subst, ◌∙◌, Option, Some, None}
 use Rattle.scop_reader.specs.Lines.{Rest, Line, TakesLine, is_silent, behind_silent}
 
 abbrev pub said : Rest → Rest

@@ -1,13 +1,13 @@
 -- The words of a line with their columns, beside the first word from a place on.
-use Rattle.std.proofs.Common.{◌≡◌, ℕ, Bool, true, false, List, [], ◌∷◌, ◌+◌, ◌-◌, ◌≤◌, ◌<◌, ◌⊎◌, inl, inr, not, take, drop, refl, sym, ap, subst, suc, length, ◌∙◌, arith}
+use Rattle.std.proofs.Common.{◌≡◌, ℕ, true, false, List, [], ◌∷◌, ◌+◌, ◌-◌, ◌≤◌, ◌<◌, inl, inr, take, drop, refl, sym, ap, suc, length, ◌∙◌, arith}
 use Rattle.std.specs.List.{prefix_len}
 use Rattle.std.proofs.lemmas.List.{length-drop, length-take, drop-drop}
 use Rattle.std.proofs.lemmas.List.Sums.{prefix_len-le-length}
 use Rattle.suite_base.specs.Lines.{is_blank, trim_front, put}
 use Rattle.suite_base.specs.Words.{words, begins_word, FirstWord}
 use Rattle.suite_base.proofs.LineCuts.{bool_tells}
-use Rattle.suite_base.proofs.WordCuts.{in_word, front_cut, FrontCut, words-trim_front, trim_front_begins, word_cut}
-use Rattle.scop_reader.specs.Lines.{Word, words_from, put_word}
+use Rattle.suite_base.proofs.WordCuts.{in_word, front_cut, words-trim_front, trim_front_begins, word_cut}
+use Rattle.scop_reader.specs.Lines.{words_from, put_word}
 
 -- blanks at the front move the words
 pub words_behind_blanks : (column : ℕ) (s : List ℕ) → words_from column s ≡ words_from (column + (length s - length (trim_front s))) (trim_front s)

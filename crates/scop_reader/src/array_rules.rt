@@ -9,7 +9,7 @@ ghost use Rattle.scop_reader.specs.Rules as spec;
 use crate::cursors::{Cursor, bad_line};
 use crate::extension_names::{is_opening, opened_name};
 use crate::kept_lines::kept;
-use crate::line_rules::{closing, count_line, text_of};
+use crate::line_rules::{closing, count_line, literal, text_of};
 use crate::line_words::LineWords;
 use crate::number_words::coeff_from;
 use crate::text_lines::TextLine;
@@ -123,4 +123,20 @@ fn global(
         others.push(made)?;
     }
     Ok(())
+}
+
+/// Takes the global extensions and the line behind them that closes the whole.
+pub fn globals(
+    alloc: Global,
+    cursor: &mut Cursor<'_>,
+    special: &mut Option<List<(Coeff, Text)>>,
+    others: &mut List<Extension>,
+) -> Result<(), Fail>
+    requires { spec.extensions_of special.old others.old ≡ spec.no_extensions }
+    ensures { ReadsTo (spec.globals cursor.old) result (spec.extensions_of special.new others.new) cursor.new }
+{
+    while !cursor.sees(b"</OpenScop>") {
+        global(alloc, cursor, special, others)?;
+    }
+    literal(cursor, b"</OpenScop>")
 }

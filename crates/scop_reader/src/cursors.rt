@@ -46,7 +46,7 @@ impl<'a> Cursor<'a> {
     }
 
     /// Another cursor at the same line.
-    fn copy(&self) -> Cursor<'a>
+    pub fn copy(&self) -> Cursor<'a>
         ensures { result ≡ self.now }
     {
         Cursor {

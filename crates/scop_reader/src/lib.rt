@@ -14,7 +14,11 @@ mod number_words;
 mod part_rules;
 mod relation_rules;
 mod roles;
+mod scop_rules;
+mod scop_texts;
 mod statement_rules;
 mod text_lines;
 
 pub use roles::Role;
+pub use scop_rules::read_pieces;
+pub use scop_texts::read_scop;

@@ -1,4 +1,4 @@
-use Rattle.std.proofs.Common.{◌≡◌, ◌∙◌, ap, sym, rules, arith, Ok}
+use Rattle.std.proofs.Common.{rules, arith}
 use Rattle.std.proofs.lemmas.Grind.{common_steps}
 use Rattle.scop_reader.proofs.NameLines.{no_iterators, some_iterators}
 use Rattle.scop_reader.proofs.bodies.iterator_names.Goals as goal

@@ -1,4 +1,4 @@
-use Rattle.std.proofs.Common.{◌≡◌, ◌∙◌, ap, sym, rules, arith, Ok, true, false}
+use Rattle.std.proofs.Common.{◌≡◌, ◌∙◌, rules, arith, true, false}
 use Rattle.std.proofs.lemmas.Grind.{common_steps}
 use Rattle.std.specs.Str.{bytes_eq}
 use Rattle.suite_base.specs.Lines.{trim}

@@ -1,4 +1,4 @@
-use Rattle.std.proofs.Common.{◌≡◌, sym}
+use Rattle.std.proofs.Common.{sym}
 use Rattle.std.proofs.lemmas.List.Sums.{prefix_len-le-length}
 use Rattle.suite_base.proofs.WordCuts.{comment_cut, in_content}
 use Rattle.scop_reader.proofs.line_words.before_comment.Goals as goal

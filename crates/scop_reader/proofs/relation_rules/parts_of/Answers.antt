@@ -1,4 +1,4 @@
-use Rattle.std.proofs.Common.{rules, arith, []}
+use Rattle.std.proofs.Common.{rules, arith}
 use Rattle.std.proofs.lemmas.Grind.{common_steps}
 use Rattle.scop_reader.specs.Rules.{parts_from}
 use Rattle.scop_reader.proofs.Turns.{one_more, no_more}

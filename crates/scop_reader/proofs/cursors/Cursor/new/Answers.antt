@@ -1,6 +1,4 @@
-use Rattle.std.proofs.Common.{arith, ◌≡◌, ap}
-use Rattle.scop_reader.specs.Lines.{extent}
-use Rattle.suite_base.specs.Lines.{lines}
+use Rattle.std.proofs.Common.{arith}
 use Rattle.scop_reader.proofs.LineExtents.{extent_lines}
 use Rattle.scop_reader.proofs.cursors.Cursor.new.Goals as goal
 

@@ -1,5 +1,4 @@
-use Rattle.std.proofs.Common.{◌≡◌, ◌∙◌, ap, sym, false, true, Some, None}
-use Rattle.scop_reader.specs.Lines.{is_silent}
+use Rattle.std.proofs.Common.{◌∙◌, sym, Some, None}
 use Rattle.scop_reader.proofs.ReadingLemmas.{said, said_silent, said_found, said_none, takes_along}
 use Rattle.scop_reader.proofs.cursors.Cursor.next_said_line.Goals as goal
 

@@ -1,4 +1,4 @@
-use Rattle.std.proofs.Common.{◌≡◌, ◌∙◌, ◌+◌, drop, sym}
+use Rattle.std.proofs.Common.{◌∙◌, ◌+◌, drop, sym}
 use Rattle.scop_reader.proofs.WordColumns.{first_column, no_columns}
 use Rattle.scop_reader.proofs.line_words.LineWords.next.Goals as goal
 
