@@ -1,10 +1,9 @@
 -- Each line that is printed of pieces is one line, and says what it is to say.
-use Rattle.std.proofs.Common.{◌≡◌, refl, sym, ◌∙◌, Option, Some, None, ℕ, ℤ, pos, unsigned_abs, ◌+◌, ◌^◌, ◌≤◌, ◌<◌, suc, List, [], ◌∷◌, ◌++◌, length, map, reverse, Bool, true, false, not, ◌&&◌, inl, inr, arith}
+use Rattle.std.proofs.Common.{◌≡◌, refl, Option, Some, None, ℕ, ℤ, pos, unsigned_abs, ◌+◌, ◌^◌, ◌≤◌, ◌<◌, suc, List, [], ◌∷◌, ◌++◌, length, map, reverse, Bool, true, false, not, ◌&&◌, arith}
 use Rattle.std.specs.Prelude.{codes, nat_le, nat_lt, int_le, ◌||◌, IfSome, All}
 use Rattle.std.specs.List.{flat_map, AllByRecursion}
 use Rattle.std.specs.Str.{bytes_eq}
 use Rattle.std.proofs.lemmas.Bool.{and_parts, and_from, or_parts, or_from}
-use Rattle.std.proofs.lemmas.Bool.Decides.{leb_tells}
 use Rattle.std.proofs.lemmas.List.{length-map}
 use Rattle.std.proofs.lemmas.List.Elements.{recursion_from_All}
 use Rattle.suite_base.specs.Lines.{trim}
@@ -13,7 +12,7 @@ use Rattle.row_core.specs.Rows.{AreCoefficients}
 use Rattle.relation_core.specs.declared.part_rows.RowKind.{RowKind}
 use Rattle.relation_core.specs.declared.part_rows.RowKind.TheVariants.{Equal, AtLeast}
 use Rattle.relation_core.specs.declared.part_rows.PartRow.{PartRow}
-use Rattle.relation_core.specs.Systems.{System, columns, row_at, IsWellFormed}
+use Rattle.relation_core.specs.Systems.{System, columns, row_at}
 use Rattle.scop_core.specs.declared.accesses.AccessKind.{AccessKind}
 use Rattle.scop_core.specs.declared.accesses.AccessKind.TheVariants as kind
 use Rattle.scop_core.specs.declared.limits.PartCount.TheVariants.{RowCount}
@@ -25,9 +24,11 @@ use Rattle.scop_core.specs.Layouts.{access_word}
 use Rattle.scop_core.specs.Assembly.{some_above, accesses_above, accesses_many, array_count, first_limit, statement_limit, the_part, iterators_of, HasShapes}
 use Rattle.scop_core.specs.Printable.{has_no, is_plain, is_name, are_names, is_body_line, is_body, end_line, body_name, arrays_name, is_extension_name, are_kept_lines, is_kept, are_kept, has_no_array, are_arrays, IsPrintableStatement, IsPrintable}
 use Rattle.scop_reader.specs.Documents.{Said, Literal, Closing, Raw, End, Document, count, kind_number, said_row, said_part, said_count, said_relation, said_access, said_names, said_body, said_array, said_arrays, open_line, said_kept, said_item, said_statement, said_parameters, said_context, said_document}
-use Rattle.scop_reader.specs.Texts.{StatementIsHeld, IsHeld}
+use Rattle.scop_reader.specs.Texts.{IsFormed, StatementIsHeld, IsHeld}
 use Rattle.scop_reader.proofs.GrammarPrinted.{IsGood, IsTrimmed, AreSmall, literal_good, closing_good, end_good, raw_good, words_good, numbers_good, entry_good, open_trimmed, end_trimmed}
 use Rattle.scop_reader.proofs.GrammarSpelled.{parts_of, access_text, keep, items_of, statement_text, document_of}
+use Rattle.scop_reader.proofs.GrammarArrays.{Array}
+use Rattle.scop_reader.proofs.GrammarConditions.{most}
 use Rattle.scop_reader.proofs.GrammarProper.{StatementLow, statement_low, WholeLow, no_first}
 
 -- every line of these is good
@@ -39,13 +40,6 @@ all_append [] b h k = k
 all_append (said ∷ a) b h k = (h.0, all_append a b h.1 k)
 
 -- ---- counts
-
-most : (n m : ℕ) → nat_lt n m ≡ false → m ≤ n
-most n m e =
-    elim (leb_tells (suc n) m) [
-      | inl above ↦ absurd (let no : true ≡ false = sym above.0 ∙ e in cc)
-      | inr below ↦ let low : m < suc n = below.1 in omega arith
-    ]
 
 count_good : (n : ℕ) → n < 2 ^ 127 → IsGood (count n)
 count_good n h = numbers_good (pos n) [] (h, tt)
@@ -63,9 +57,6 @@ kind_small AtLeast = omega arith
 rows_good : (rows : List PartRow) → ((k : ℕ) → AreCoefficients (row_at rows k).entries) → AllGood (map said_row rows)
 rows_good [] h = tt
 rows_good (row ∷ rows) h = (numbers_good (kind_number row.kind) row.entries (kind_small row.kind, small_entries row.entries (h 0)), rows_good rows (λ k. h (suc k)))
-
-abbrev IsFormed : System → Type 0
-IsFormed p = IsWellFormed p.shape p.rows
 
 part_good : (p : System) → IsFormed p → length p.rows ≤ 256 → AllGood (said_part p)
 part_good p f rows =
@@ -164,9 +155,6 @@ items_good special rule None xs h k = all_kept_good special rule xs k
 items_good {A} special rule (Some a) xs h k = all_append (rule a) (flat_map (said_item rule) (map (keep {A = A}) xs)) h (all_kept_good special rule xs k)
 
 -- ---- arrays
-
-abbrev Array : Type 0
-Array = ℤ × List ℕ
 
 each_array_good : (arrays : List Array) → are_arrays arrays ≡ true → AllByRecursion (λ a. unsigned_abs a.0 < 2 ^ 127) arrays → AllGood (map said_array arrays)
 each_array_good [] h small = tt

@@ -7,7 +7,7 @@ use Rattle.std.proofs.lemmas.Bool.Decides.{Decides-eqb}
 use Rattle.std.proofs.lemmas.List.Elements.{recursion_from_All}
 use Rattle.suite_base.specs.Lines.{lines}
 use Rattle.relation_core.specs.declared.part_rows.PartRow.{PartRow}
-use Rattle.relation_core.specs.Systems.{System, width, row_at, IsWellFormed}
+use Rattle.relation_core.specs.Systems.{System, width, row_at}
 use Rattle.scop_core.specs.declared.accesses.AccessKind.{AccessKind}
 use Rattle.scop_core.specs.declared.statements.Extension.{Extension}
 use Rattle.scop_core.specs.declared.raw_pieces.RawStatement.{RawStatement}
@@ -20,16 +20,13 @@ use Rattle.scop_core.proofs.ReadBackPieces.{pieces_read_back}
 use Rattle.scop_reader.specs.Lines.{Rest}
 use Rattle.scop_reader.specs.Rules.{from_open, no_second}
 use Rattle.scop_reader.specs.Documents.{Parts, Document, said_document, pieces_of, behind_all}
-use Rattle.scop_reader.specs.Texts.{are_wide, parts_are_wide, is_relation, are_relations, has_no_special, has_one_special, is_statement, are_statements, IsDocument, IsTextOf, StatementIsHeld, IsHeld, LayoutReadsBack}
+use Rattle.scop_reader.specs.Texts.{IsFormed, are_wide, parts_are_wide, is_relation, are_relations, has_no_special, has_one_special, is_statement, are_statements, IsDocument, IsTextOf, StatementIsHeld, IsHeld, LayoutReadsBack}
 use Rattle.scop_reader.proofs.GrammarPrinted.{printed, printed_text, printed_lines, printed_says}
 use Rattle.scop_reader.proofs.GrammarSpelled.{parts_of, access_text, keep, items_of, statement_text, document_of, pieces_are, layout_spelled}
 use Rattle.scop_reader.proofs.GrammarGood.{AllGood, document_good}
 use Rattle.scop_reader.proofs.GrammarProper.{whole_low, no_first}
 
 -- ---- the document that is printed is one that a text can be
-
-abbrev IsFormed : System → Type 0
-IsFormed p = IsWellFormed p.shape p.rows
 
 rows_wide : (w : ℕ) (rows : List PartRow) → ((k : ℕ) → k < length rows → length (row_at rows k).entries ≡ w) → are_wide w rows ≡ true
 rows_wide w [] h = refl

@@ -17,7 +17,7 @@ use Rattle.suite_base.proofs.NumberLaws.{signed_decimal_word, signed_decimal_rea
 use Rattle.scop_core.specs.Printable.{has_no, is_plain, is_name, are_names, is_letter, are_letters_or_digits, is_extension_name, end_line}
 use Rattle.scop_reader.specs.Lines.{Rest, is_empty, is_silent, words_of, word_bytes}
 use Rattle.scop_reader.specs.Documents.{Said, Literal, Words, Numbers, Entry, Closing, Raw, End, says, is_raw, are_same, are_numbers, is_value, is_entry, behind, behind_all, open_line}
-use Rattle.scop_reader.proofs.GrammarLines.{other_way, join_one}
+use Rattle.scop_reader.proofs.GrammarLines.{false_of, other_way, join_one}
 use Rattle.scop_reader.proofs.GrammarWords.{words_same, plain_more, is_its_value}
 use Rattle.scop_reader.proofs.GrammarText.{content_words, words-trim}
 
@@ -57,10 +57,6 @@ line_end (b ∷ text) more h =
     let both = and_parts (not (10 == b)) (has_no 10 text) h in
     let other : (b == 10) ≡ false = other_way 10 b (false_of (10 == b) both.0) in
     rw (other, line_end text more both.1) refl
-  where
-    false_of : (c : Bool) → not c ≡ true → c ≡ false
-    false_of true k = absurd (cc)
-    false_of false k = refl
 
 pub printed_lines : (saids : List Said) → AllByRecursion IsGood saids → lines (printed_text saids) ≡ map printed saids
 printed_lines [] h = refl
@@ -77,10 +73,6 @@ printed_behind said n ls good =
           let loud : is_silent (printed said) ≡ false = false_of (is_silent (printed said)) (ap (λ (b : Bool). b || not (is_silent (printed said))) (sym plain) ∙ good.speaks) in
           rw (plain, loud, good.said_is) refl
     ]
-  where
-    false_of : (c : Bool) → not c ≡ true → c ≡ false
-    false_of true k = absurd (cc)
-    false_of false k = refl
 
 pub printed_says : (saids : List Said) (n : ℕ) → AllByRecursion IsGood saids → (rest : Rest) × (behind_all saids (record { number = n; lines = map printed saids }) ≡ Some rest) × (rest.lines ≡ [])
 printed_says [] n h = (record { number = n; lines = [] }, refl, refl)
@@ -99,10 +91,6 @@ pub record IsTrimmed (text : List ℕ) : Type 0 where
 front_same : (text : List ℕ) → begins_word text ≡ true → trim_front text ≡ text
 front_same [] h = refl
 front_same (b ∷ text) h = rw (false_of (is_blank b) h) refl
-  where
-    false_of : (c : Bool) → not c ≡ true → c ≡ false
-    false_of true k = absurd (cc)
-    false_of false k = refl
 
 pub trim_same : (text : List ℕ) → begins_word text ≡ true → begins_word (reverse text) ≡ true → trim text ≡ text
 trim_same text begins ends =
@@ -114,10 +102,6 @@ no_comment (b ∷ text) h =
     let both = and_parts (not (35 == b)) (has_no 35 text) h in
     let other : (b == 35) ≡ false = other_way 35 b (false_of (35 == b) both.0) in
     rw other (ap (λ (t : List ℕ). b ∷ t) (no_comment text both.1))
-  where
-    false_of : (c : Bool) → not c ≡ true → c ≡ false
-    false_of true k = absurd (cc)
-    false_of false k = refl
 
 content_same : (text : List ℕ) → IsTrimmed text → content text ≡ text
 content_same text t =

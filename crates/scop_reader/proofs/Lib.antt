@@ -26,4 +26,8 @@ pub mod ReadScops
 pub mod GrammarPrinted
 pub mod GrammarSpelled
 pub mod GrammarGood
+pub mod GrammarFormed
 pub mod GrammarLayout
+pub mod GrammarHeld
+pub mod GrammarRanges
+pub mod GrammarReadBack

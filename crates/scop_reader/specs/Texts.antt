@@ -121,19 +121,27 @@ StandsForOne = (bytes : List ℕ) (S T : ScopData) → IsScopText bytes S → Is
 
 -- ---- printed text
 
+-- rows are as wide as the shape, entries are coefficients, no number of the shape is too large
+abbrev pub IsFormed : System → Type 0
+IsFormed part = IsWellFormed part.shape part.rows
+
 -- the parts of a statement are well-formed, and its extensions can be counted
 pub record StatementIsHeld (raw : RawStatement) : Type 0 where
-  pub domain : All (λ part. IsWellFormed part.shape part.rows) raw.domain
-  pub scattering : All (λ part. IsWellFormed part.shape part.rows) raw.scattering
-  pub accesses : All (λ access. All (λ part. IsWellFormed part.shape part.rows) access.1) raw.accesses
+  pub domain : All IsFormed raw.domain
+  pub scattering : All IsFormed raw.scattering
+  pub accesses : All (λ access. All IsFormed access.1) raw.accesses
   pub extensions : length raw.extensions < 2 ^ 64
 
 -- the pieces are such as types hold: parts are well-formed, numbers are in range
 pub record IsHeld (pieces : ScopPieces) : Type 0 where
-  pub context : IsWellFormed pieces.context.shape pieces.context.rows
+  pub context : IsFormed pieces.context
   pub statements : All StatementIsHeld pieces.statements
   pub arrays : IfSome pieces.arrays (All (λ array. unsigned_abs array.0 < 2 ^ 127))
 
 -- what is printed of a valid SCoP is a text of that SCoP
 abbrev pub LayoutReadsBack : Type 0
 LayoutReadsBack = (scop : ScopData) → IsValid scop → IsHeld (printed_pieces scop) → IsScopText (layout scop) scop
+
+-- what is printed of the SCoP of a text is a text of that SCoP
+abbrev pub TextsReadBack : Type 0
+TextsReadBack = (bytes : List ℕ) (scop : ScopData) → length bytes < 2 ^ 64 → IsScopText bytes scop → IsScopText (layout scop) scop
