@@ -82,7 +82,6 @@ pub lesser : (k : Symbol) (r : Reading) → symbol r ≡ k → OfToken k → lef
 lesser k r e h = left_less r (λ f. h.0 (sym e ∙ f)) (λ f. h.1 (sym e ∙ f))
 
 module _ (Deep : Type 0) where
-
   -- the refusal is one of depth, and such a one may come
   abbrev pub IsLimit : Refusal → Type 0
   IsLimit (TooDeep p) = Deep
@@ -162,7 +161,6 @@ module _ (Deep : Type 0) where
   module _ {S A : Type 0} (sign : Symbol → Option S) (mark : S → Symbol) (item : Parser A) (form : A → Phrase) (P : Reading → A → Reading → Type 0) (limit : ℕ)
       (forth : (x : S) → sign (mark x) ≡ Some x) (stops : (k : Symbol) → suc limit ≤ power k → sign k ≡ None) (marks : (x : S) → power (mark x) ≡ limit) (weak : limit < 8)
       (goes : (r : Reading) → Yields r (P r) (item r)) (items : (a : A) (r m : Reading) → form a r m → limit ≤ power (symbol m) → Comes a m (item r)) where
-
     pub signed_ends : (more : List (S × A)) (r m : Reading) → signed mark form more r m → suc limit ≤ power (symbol m) → limit ≤ power (symbol r)
     signed_ends [] r m d h = rw d (omega arith)
     signed_ends (x ∷ more) r m d h = ends (mark x.0) r limit d.1.0 (omega (arith, marks x.0))
@@ -187,7 +185,6 @@ module _ (Deep : Type 0) where
 
   module _ {A : Type 0} (sign : Symbol) (item : Parser A) (form : A → Phrase) (P : Reading → A → Reading → Type 0) (limit : ℕ) (bound : limit ≤ power sign) (token_is : OfToken sign)
       (goes : (r : Reading) → Yields r (P r) (item r)) (items : (a : A) (r m : Reading) → form a r m → limit ≤ power (symbol m) → Comes a m (item r)) where
-
     others_end : (more : List A) (r m : Reading) → others sign form more r m → limit ≤ power (symbol m) → limit ≤ power (symbol r)
     others_end [] r m d h = rw d h
     others_end (x ∷ more) r m d h = ends sign r limit d.1.0 bound

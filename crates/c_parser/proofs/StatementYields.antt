@@ -146,7 +146,6 @@ module _ (nests : ℕ) where
 
 module _ (nests loops : ℕ) (inner body : Parser Node) (nest_form loop_form : Node → Phrase)
     (inners : (r : Reading) → Takes r (λ t m. nest_form t r m) (inner r)) (bodies : (r : Reading) → Takes r (λ t m. loop_form t r m) (body r)) where
-
   abbrev Is : Reading → Node → Reading → Type 0
   Is r t m = d.IsStatement nests loops nest_form loop_form t r m
 

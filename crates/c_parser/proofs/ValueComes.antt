@@ -94,7 +94,6 @@ pub record Full (Deep : Type 0) (inner : Rules) (forms : Forms) : Type 0 where
   pub opens : (t : Value) (r m : Reading) → forms.value t r m → symbol r ≡ s.CloseRound → ⊥
 
 module _ (Deep : Type 0) (wanted nests : ℕ) (room : Room Deep wanted nests) (h : 0 < nests → Full Deep (below nests) (nested wanted)) where
-
   abbrev I : Rules
   I = below nests
 
@@ -223,7 +222,7 @@ module _ (Deep : Type 0) (wanted nests : ℕ) (room : Room Deep wanted nests) (h
   unfolding sum sum_rest
   sum_comes t r m d k =
       let more = signed_ends Deep sum_sign sum_token (product nests I) (g.IsProduct wanted F) _ 2 sum_forth no_sum sum_power (omega arith)
-          (y.product_yields nests I (nested nests) S) product_comes d.rest d.derived.0 m d.derived.2 k in
+      (y.product_yields nests I (nested nests) S) product_comes d.rest d.derived.0 m d.derived.2 k in
       then_comes Deep d.first d.derived.0 t m _ _ (product_comes d.first r d.derived.0 d.derived.1 more)
       (then_comes Deep d.rest m t m _ _
       (signed_comes Deep sum_sign sum_token (product nests I) (g.IsProduct wanted F) _ 2 sum_forth no_sum sum_power (omega arith) (y.product_yields nests I
@@ -242,7 +241,7 @@ module _ (Deep : Type 0) (wanted nests : ℕ) (room : Room Deep wanted nests) (h
   unfolding equal equal_rest
   equal_comes t r m d k =
       let more = signed_ends Deep equal_sign equal_token (compare nests I) (g.IsCompare wanted F) _ 4 equal_forth no_equal equal_power (omega
-          arith) (y.compare_yields nests I (nested nests) S) compare_comes d.rest d.derived.0 m d.derived.2 k in
+      arith) (y.compare_yields nests I (nested nests) S) compare_comes d.rest d.derived.0 m d.derived.2 k in
       then_comes Deep d.first d.derived.0 t m _ _ (compare_comes d.first r d.derived.0 d.derived.1 more)
       (then_comes Deep d.rest m t m _ _
       (signed_comes Deep equal_sign equal_token (compare nests I) (g.IsCompare wanted F) _ 4 equal_forth no_equal equal_power (omega arith) (y.compare_yields nests I
@@ -328,7 +327,7 @@ module _ (Deep : Type 0) (wanted nests : ℕ) (room : Room Deep wanted nests) (h
     value = value_comes;
     sum = sum_comes;
     operand = operand_comes;
-    opens = λ t r m d e. or_opens d.test r d.derived.0 d.derived.1 e
+    opens = λ t r m d e. or_opens d.test r d.derived.0 d.derived.1 e;
   }
 
 pub nested_full : (Deep : Type 0) (wanted nests : ℕ) → Room Deep wanted nests → 0 < nests → Full Deep (below nests) (nested wanted)

@@ -87,7 +87,6 @@ pub record Inner (r : Reading) (nests : ℕ) (inner : Rules) : Type 0 where
   pub unary : (signs : List UnarySign) (i : ℕ) → Within r nests i → Runs r (λ x. inner.unary signs) i (inner.unary signs (later i r))
 
 module _ (r : Reading) (nests : ℕ) (h : Inner r nests (below nests)) where
-
   abbrev I : Rules
   I = below nests
 
@@ -288,12 +287,12 @@ unfolding below
 inner_runs r zero = record {
   value = λ i d. refuse_runs r Value i d.0;
   sum = λ i d. refuse_runs r Sum i d.0;
-  unary = λ signs i d. refuse_runs r Unary i d.0
+  unary = λ signs i d. refuse_runs r Unary i d.0;
 }
 inner_runs r (suc n) =
     let h : Inner r n (below n) = inner_runs r n in
     record {
       value = λ i d. value_runs r n h i (d.0, omega (arith, d.1));
       sum = λ i d. sum_runs r n h i (d.0, omega (arith, d.1));
-      unary = λ signs i d. unary_runs r n h signs i (d.0, omega (arith, d.1))
+      unary = λ signs i d. unary_runs r n h signs i (d.0, omega (arith, d.1));
     }

@@ -66,7 +66,6 @@ pub record Derives (inner : Rules) (forms : Forms) : Type 0 where
   pub unary : (signs : List UnarySign) (r : Reading) → Yields r (Operand forms.operand signs r) (inner.unary signs r)
 
 module _ (nests : ℕ) (inner : Rules) (forms : Forms) (h : Derives inner forms) where
-
   pub subscript_takes : (r : Reading) → symbol r ≡ s.OpenSquare → Takes r (λ t m. g.subscript nests forms t r m) (subscript nests inner r)
   unfolding subscript
   subscript_takes r e =

@@ -117,7 +117,6 @@ opened_takes nests r Q q h = open_takes r Q (nests == 0) _ q (λ e. h (some_nest
 
 module _ {S A : Type 0} (sign : Symbol → Option S) (mark : S → Symbol) (item : Parser A) (form : A → Phrase)
     (back : (k : Symbol) (x : S) → sign k ≡ Some x → k ≡ mark x) (items : (r : Reading) → Yields r (λ a m. form a r m) (item r)) where
-
   -- behind those that were found
   abbrev Signed : Reading → List (S × A) → List (S × A) → Reading → Type 0
   Signed r found all m = (more : List (S × A)) × (found ++ more ≡ all) × signed mark form more r m
@@ -139,7 +138,6 @@ module _ {S A : Type 0} (sign : Symbol → Option S) (mark : S → Symbol) (item
   all_signed n r = yields_so r _ _ _ (signed_yields n [] r) (λ all m k. let P : List (S × A) → Type 0 = λ x. signed mark form x r m in subst P k.1 k.2)
 
 module _ {A : Type 0} (sign : Symbol) (item : Parser A) (form : A → Phrase) (items : (r : Reading) → Yields r (λ a m. form a r m) (item r)) where
-
   abbrev Separated : Reading → List A → List A → Reading → Type 0
   Separated r found all m = (x : A) × (more : List A) × (found ++ x ∷ more ≡ all) × (form x then others sign form more) r m
 

@@ -26,11 +26,11 @@ either false b h = inr h
 high_letter : (b : ℕ) → is_letter b ≡ true → nat_le 36 b ≡ true
 high_letter b h =
     elim (either (nat_le 65 b && nat_le b 90 || nat_le 97 b && nat_le b 122) (b == 95) h) [
-      inl l ↦ elim (either (nat_le 65 b && nat_le b 90) (nat_le 97 b && nat_le b 122) l) [
-        inl u ↦ let e : nat_le 65 b ≡ true = and_first _ _ u in grind (arith, nat_tests)
-      | inr u ↦ let e : nat_le 97 b ≡ true = and_first _ _ u in grind (arith, nat_tests)
+      | inl l ↦ elim (either (nat_le 65 b && nat_le b 90) (nat_le 97 b && nat_le b 122) l) [
+        | inl u ↦ let e : nat_le 65 b ≡ true = and_first _ _ u in grind (arith, nat_tests)
+        | inr u ↦ let e : nat_le 97 b ≡ true = and_first _ _ u in grind (arith, nat_tests)
       ]
-    | inr l ↦ grind (arith, nat_tests)
+      | inr l ↦ grind (arith, nat_tests)
     ]
 
 high_digit : (b : ℕ) → is_digit b ≡ true → nat_le 36 b ≡ true
