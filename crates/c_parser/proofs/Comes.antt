@@ -1,5 +1,5 @@
 -- A parser comes to a tree, unless a limit of depth stops it.
-use Rattle.std.proofs.Common.{◌≡◌, ℕ, zero, suc, ◌+◌, ◌≤◌, ◌<◌, ◌==◌, Bool, true, false, if◌then◌else◌, List, [], ◌∷◌, ◌++◌, Option, Some, None, Result, Ok, Err, inl, inr, refl, ap, sym, subst, ◌∙◌, arith, append_assoc}
+use Rattle.std.proofs.Common.{◌≡◌, ℕ, zero, suc, ◌≤◌, ◌<◌, ◌==◌, Bool, true, false, if◌then◌else◌, List, [], ◌∷◌, ◌++◌, Option, Some, None, Ok, Err, inl, inr, refl, ap, sym, subst, ◌∙◌, arith, append_assoc}
 use Rattle.std.specs.Prelude.{◌⊎◌}
 use Rattle.std.proofs.lemmas.List.{append-nil}
 use Rattle.std.proofs.lemmas.Bool.Decides.{eqb_tells}
@@ -7,18 +7,16 @@ use Rattle.suite_base.specs.declared.places.Place.{Place}
 use Rattle.suite_base.specs.declared.refusals.Refusal.{Refusal}
 use Rattle.suite_base.specs.declared.refusals.Refusal.TheVariants.{TooDeep}
 use Rattle.c_lexer.specs.Readings.{Reading}
-use Rattle.c_parser.specs.declared.stops.Stop.{Stop}
 use Rattle.c_parser.specs.declared.stops.Stop.TheVariants.{Memory, Refused}
 use Rattle.c_parser.specs.declared.symbols.Symbol.{Symbol}
 use Rattle.c_parser.specs.declared.symbols.Symbol.TheVariants as s
 use Rattle.c_parser.specs.declared.tree.Piece.{Piece}
 use Rattle.c_parser.specs.Symbols.{same_symbol}
-use Rattle.c_parser.specs.Input.{Outcome, Parser, and_then, ◌>>=◌, ◌>>◌, ◌<$>◌, pure, refuse, peek, position, take_token, eat, expect, open_nest, left, here, symbol, start, piece, after, after_if, sees}
-use Rattle.c_parser.specs.Values.{go_on, signed_from, separated_from, separated, product_sign, sum_sign, rel_sign, equal_sign}
-use Rattle.c_parser.specs.Grammar as g
-use Rattle.c_parser.specs.Grammar.{Phrase, ◌then◌, token, word, empty, signed, others, each}
+use Rattle.c_parser.specs.Input.{Outcome, Parser, and_then, ◌>>=◌, ◌>>◌, pure, eat, expect, open_nest, left, here, symbol, piece, after, after_if}
+use Rattle.c_parser.specs.Values.{signed_from, separated_from, product_sign, sum_sign, rel_sign, equal_sign}
+use Rattle.c_parser.specs.Grammar.{Phrase, ◌then◌, token, word, signed, others}
 use Rattle.c_parser.proofs.TokenFacts.{same_is, differs, sees_it, sees_other, left_less, not_true}
-use Rattle.c_parser.proofs.Yields.{Yields, Takes, some_nests, IsToken}
+use Rattle.c_parser.proofs.Yields.{Yields, Takes, some_nests, OfToken}
 
 -- the rest of a phrase behind its first token
 pub token_then : (k : Symbol) (r : Reading) (E : Reading → Type 0) → ((m : Reading) × token k r m × E m) → (symbol r ≡ k) × E (after r)
@@ -77,22 +75,23 @@ no_equal _ h = refl
 pub other : (k : Symbol) (r : Reading) (n : ℕ) → n ≤ power (symbol r) → power k < n → symbol r ≡ k → ⊥
 other k r n h g e = let p : power (symbol r) ≡ power k = ap power e in absurd (omega (arith, p))
 
-pub weak_token : (k : Symbol) → power k < 8 → IsToken k
+pub weak_token : (k : Symbol) → power k < 8 → OfToken k
 weak_token k h = ((λ e. let p : power k ≡ power s.End = ap power e in absurd (omega (arith, p))), (λ e. let p : power k ≡ power s.Bad = ap power e in absurd (omega (arith, p))))
 
-pub lesser : (k : Symbol) (r : Reading) → symbol r ≡ k → IsToken k → left (after r) < left r
+pub lesser : (k : Symbol) (r : Reading) → symbol r ≡ k → OfToken k → left (after r) < left r
 lesser k r e h = left_less r (λ f. h.0 (sym e ∙ f)) (λ f. h.1 (sym e ∙ f))
 
 module _ (Deep : Type 0) where
 
-  abbrev pub IsDeep : Refusal → Type 0
-  IsDeep (TooDeep p) = Deep
-  IsDeep _ = ⊥
+  -- the refusal is one of depth, and such a one may come
+  abbrev pub IsLimit : Refusal → Type 0
+  IsLimit (TooDeep p) = Deep
+  IsLimit _ = ⊥
 
   abbrev pub Comes : {A : Type 0} → A → Reading → Outcome A → Type 0
   Comes a m (Ok y) = (y.0 ≡ a) × (y.1 ≡ m)
   Comes a m (Err Memory) = ⊥
-  Comes a m (Err (Refused e)) = IsDeep e
+  Comes a m (Err (Refused e)) = IsLimit e
 
   -- so many nests are enough, or a limit may stop the parser
   abbrev pub Room : ℕ → ℕ → Type 0
@@ -186,7 +185,7 @@ module _ (Deep : Type 0) where
         (λ f. subst (λ l. Comes l m (signed_from sign item n (found ++ x ∷ []) a.1.0)) (append_assoc found (x ∷ []) more)
         (signed_comes more n (found ++ x ∷ []) a.1.0 m (omega (arith, f, less, fuel)) a.1.2 h)))
 
-  module _ {A : Type 0} (sign : Symbol) (item : Parser A) (form : A → Phrase) (P : Reading → A → Reading → Type 0) (limit : ℕ) (bound : limit ≤ power sign) (token_is : IsToken sign)
+  module _ {A : Type 0} (sign : Symbol) (item : Parser A) (form : A → Phrase) (P : Reading → A → Reading → Type 0) (limit : ℕ) (bound : limit ≤ power sign) (token_is : OfToken sign)
       (goes : (r : Reading) → Yields r (P r) (item r)) (items : (a : A) (r m : Reading) → form a r m → limit ≤ power (symbol m) → Comes a m (item r)) where
 
     others_end : (more : List A) (r m : Reading) → others sign form more r m → limit ≤ power (symbol m) → limit ≤ power (symbol r)

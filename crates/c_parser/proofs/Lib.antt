@@ -9,4 +9,9 @@ pub mod StatementYields
 pub mod Comes
 pub mod ValueComes
 pub mod StatementComes
+pub mod SymbolFacts
+pub mod Runs
+pub mod ValueRuns
+pub mod StatementRuns
 pub mod RegionLemmas
+mod Checks

@@ -1,13 +1,12 @@
 -- The rules of statements come to each tree that their productions derive.
-use Rattle.std.proofs.Common.{◌≡◌, ℕ, zero, suc, ◌+◌, ◌-◌, ◌≤◌, ◌<◌, ◌==◌, Bool, true, false, if◌then◌else◌, List, [], ◌∷◌, ◌++◌, Option, Some, None, Result, Ok, Err, inl, inr, refl, ap, sym, subst, ◌∙◌, arith, append_assoc}
+use Rattle.std.proofs.Common.{◌≡◌, ℕ, zero, suc, ◌≤◌, ◌<◌, ◌==◌, Bool, true, false, if◌then◌else◌, List, [], ◌∷◌, ◌++◌, Option, Some, None, Ok, Err, inl, inr, refl, ap, sym, subst, ◌∙◌, arith, append_assoc}
 use Rattle.std.proofs.lemmas.List.{append-nil}
 use Rattle.std.proofs.lemmas.Slice.Eq.{bytes_eq-Decides}
-use Rattle.c_lexer.specs.Readings.{Reading, slice}
+use Rattle.c_lexer.specs.Readings.{Reading}
 use Rattle.c_parser.specs.declared.symbols.Symbol.{Symbol}
 use Rattle.c_parser.specs.declared.symbols.Symbol.TheVariants as s
 use Rattle.c_parser.specs.declared.tree.Piece.{Piece}
 use Rattle.c_parser.specs.declared.tree.Rel.{Rel}
-use Rattle.c_parser.specs.declared.tree.Sum.{Sum}
 use Rattle.c_parser.specs.declared.tree.Step.{Step}
 use Rattle.c_parser.specs.declared.tree.Step.TheVariants as st
 use Rattle.c_parser.specs.declared.tree.AssignSign.{AssignSign}
@@ -16,15 +15,13 @@ use Rattle.c_parser.specs.declared.tree.Assign.{Assign}
 use Rattle.c_parser.specs.declared.tree.Node.{Node}
 use Rattle.c_parser.specs.declared.tree.Node.TheVariants as node
 use Rattle.c_parser.specs.declared.heads.Head.{Head}
-use Rattle.c_parser.specs.Symbols.{same_symbol}
-use Rattle.c_parser.specs.Input.{Outcome, Parser, and_then, ◌>>=◌, ◌>>◌, ◌<$>◌, pure, refuse, peek, position, take_token, eat, expect, open_nest, left, symbol, start, piece, after, after_if, sees}
-use Rattle.c_parser.specs.Values.{rel_sign, below, value, target}
-use Rattle.c_parser.specs.Statements.{assign_sign, is_name, sees_name, same_name, is_upward, some_of, rel, assigned, step_sign, add_sign, pre_step, post_step, number_step, step_behind, step, open_round, head_rest, head, assign, open_loop, begins_statement, loop_of, branch_of, block_from, for_loop, branch, else_branch, if_branch, block_nodes, block, statement_by, statement_rule, level, statement, inner, body, region_from, region}
+use Rattle.c_parser.specs.Input.{Parser, and_then, ◌>>=◌, ◌>>◌, pure, refuse, take_token, eat, expect, open_nest, left, symbol, start, piece, after}
+use Rattle.c_parser.specs.Values.{rel_sign, below}
+use Rattle.c_parser.specs.Statements.{assign_sign, is_name, sees_name, same_name, is_upward, rel, assigned, add_sign, pre_step, post_step, number_step, step_behind, step, open_round, head_rest, head, assign, open_loop, begins_statement, loop_of, branch_of, block_from, for_loop, branch, else_branch, if_branch, block_nodes, block, statement_by, statement_rule, level, statement, inner, body, region_from, region}
 use Rattle.c_parser.specs.Grammar as g
 use Rattle.c_parser.specs.Grammar.{Phrase, ◌then◌, token, word, empty, each, rel_token, nested}
 use Rattle.c_parser.specs.Derivations as d
 use Rattle.c_parser.specs.Derivations.{assign_token, bytes_of, same, is_up, Derived}
-use Rattle.std.specs.Prelude.{◌⊎◌}
 use Rattle.std.proofs.lemmas.Bool.Decides.{eqb_tells}
 use Rattle.suite_base.specs.declared.places.Place.{Place}
 use Rattle.suite_base.specs.declared.refusals.Refusal.TheVariants.{TooDeep}
@@ -32,10 +29,10 @@ use Rattle.c_parser.specs.declared.stops.Stop.TheVariants.{Refused}
 use Rattle.c_parser.specs.declared.tree.Value.{Value}
 use Rattle.c_parser.specs.Input.{here}
 use Rattle.c_parser.proofs.TokenFacts.{same_is, sees_it, not_true}
-use Rattle.c_parser.proofs.Yields.{Yields, Takes, some_nests, IsToken}
+use Rattle.c_parser.proofs.Yields.{Takes, some_nests}
 use Rattle.c_parser.proofs.StatementYields.{statement_takes}
-use Rattle.c_parser.proofs.Comes.{token_then, word_then, power, ends, other, weak_token, Comes, Room, less_room, then_comes, goes_on, goes_far, expect_comes, word_comes, open_comes, opened_comes, eat_yes, eat_no, choose_yes, choose_no}
-use Rattle.c_parser.proofs.ValueComes.{rel_forth, rel_power, target_comes, value_comes, nested_full}
+use Rattle.c_parser.proofs.Comes.{token_then, power, ends, other, Comes, Room, less_room, then_comes, goes_far, expect_comes, word_comes, open_comes, opened_comes, eat_yes, eat_no, choose_yes, choose_no}
+use Rattle.c_parser.proofs.ValueComes.{rel_forth, target_comes, value_comes, nested_full}
 
 assign_forth : (x : AssignSign) → assign_sign (assign_token x) ≡ Some x
 assign_forth sign.Plain = refl

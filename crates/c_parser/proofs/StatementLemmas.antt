@@ -1,5 +1,5 @@
 -- A statement by its rule, over those of one nest and of one loop more.
-use Rattle.std.proofs.Common.{◌≡◌, ℕ, zero, suc, ◌-◌, ◌<◌, refl, ap, arith}
+use Rattle.std.proofs.Common.{◌≡◌, ℕ, zero, suc, ◌-◌, ◌<◌, refl}
 use Rattle.c_parser.specs.Statements.{statement, level, statement_rule, inner, body}
 use Rattle.c_parser.proofs.Turns.{deeper}
 

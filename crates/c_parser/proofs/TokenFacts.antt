@@ -1,14 +1,13 @@
 -- What taking a token does.
-use Rattle.std.proofs.Common.{◌≡◌, ℕ, zero, suc, ◌+◌, ◌-◌, ◌≤◌, ◌<◌, ◌==◌, Bool, true, false, if◌then◌else◌, List, [], ◌∷◌, length, drop, Option, Some, None, Result, Ok, Err, inl, inr, refl, ap, sym, ◌∙◌, arith, length-drop}
+use Rattle.std.proofs.Common.{◌≡◌, ℕ, zero, suc, ◌-◌, ◌≤◌, ◌<◌, ◌==◌, Bool, true, false, if◌then◌else◌, List, [], ◌∷◌, length, drop, Option, Some, None, Ok, inl, inr, refl, ap, sym, ◌∙◌, arith, length-drop}
 use Rattle.std.specs.Prelude.{◌||◌, ◌&&◌, ◌⊎◌}
 use Rattle.std.specs.Int.{is_in_range}
-use Rattle.std.specs.List.{prefix_len}
 use denote.Enum.Bare.{same_true, same_false, true_same, false_same}
 use Rattle.c_parser.specs.contracts.symbols.Symbol.{the_type}
 use Rattle.c_lexer.specs.declared.tokens.TokenKind.{TokenKind}
 use Rattle.c_lexer.specs.declared.tokens.TokenKind.TheVariants.{Name}
 use Rattle.c_lexer.specs.Tokens.{token_at, begins_name, begins_number, number_len, goes_on, opens_comment, sign_of}
-use Rattle.c_lexer.specs.Readings.{Reading, Lexeme, next, next_from, lexeme_at, start}
+use Rattle.c_lexer.specs.Readings.{Reading, lexeme_at, start}
 use Rattle.c_lexer.proofs.TokenLemmas.{name_moves}
 use Rattle.c_parser.specs.declared.symbols.Symbol.{Symbol}
 use Rattle.c_parser.specs.declared.symbols.Symbol.TheVariants as s

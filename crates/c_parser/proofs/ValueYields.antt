@@ -1,35 +1,24 @@
 -- The rules of values read what their productions derive.
-use Rattle.std.proofs.Common.{◌≡◌, ℕ, zero, suc, ◌+◌, ◌≤◌, ◌<◌, Bool, true, false, if◌then◌else◌, List, [], ◌∷◌, ◌++◌, Option, Some, None, Result, Ok, Err, inl, inr, refl, ap, sym, subst, ◌∙◌, arith, append_assoc}
+use Rattle.std.proofs.Common.{◌≡◌, ℕ, zero, suc, Bool, true, false, if◌then◌else◌, List, [], ◌∷◌, ◌++◌, Option, Some, None, Ok, inl, inr, refl, ap, sym, subst, ◌∙◌, arith, append_assoc}
 use Rattle.std.proofs.lemmas.List.{append-nil}
 use Rattle.c_lexer.specs.Readings.{Reading}
 use Rattle.c_parser.specs.declared.symbols.Symbol.{Symbol}
 use Rattle.c_parser.specs.declared.symbols.Symbol.TheVariants as s
 use Rattle.c_parser.specs.declared.tree.Piece.{Piece}
-use Rattle.c_parser.specs.declared.tree.Value.{Value, roll-Value}
-use Rattle.c_parser.specs.declared.tree.Arms.{Arms, roll-Arms}
-use Rattle.c_parser.specs.declared.tree.Or.{Or, roll-Or}
-use Rattle.c_parser.specs.declared.tree.And.{And, roll-And}
-use Rattle.c_parser.specs.declared.tree.Equal.{Equal, roll-Equal}
+use Rattle.c_parser.specs.declared.tree.Value.{Value}
 use Rattle.c_parser.specs.declared.tree.EqualSign.{EqualSign}
-use Rattle.c_parser.specs.declared.tree.EqualSign.TheVariants as eq
-use Rattle.c_parser.specs.declared.tree.Compare.{Compare, roll-Compare}
 use Rattle.c_parser.specs.declared.tree.Rel.{Rel}
-use Rattle.c_parser.specs.declared.tree.Rel.TheVariants as rl
-use Rattle.c_parser.specs.declared.tree.Sum.{Sum, roll-Sum}
+use Rattle.c_parser.specs.declared.tree.Sum.{Sum}
 use Rattle.c_parser.specs.declared.tree.SumSign.{SumSign}
-use Rattle.c_parser.specs.declared.tree.SumSign.TheVariants as sm
-use Rattle.c_parser.specs.declared.tree.Product.{Product, roll-Product}
 use Rattle.c_parser.specs.declared.tree.ProductSign.{ProductSign}
-use Rattle.c_parser.specs.declared.tree.ProductSign.TheVariants as pr
 use Rattle.c_parser.specs.declared.tree.Unary.{Unary, roll-Unary}
 use Rattle.c_parser.specs.declared.tree.UnarySign.{UnarySign}
-use Rattle.c_parser.specs.declared.tree.UnarySign.TheVariants as un
 use Rattle.c_parser.specs.declared.tree.Primary.{Primary}
 use Rattle.c_parser.specs.declared.tree.Primary.TheVariants as pri
-use Rattle.c_parser.specs.declared.tree.Target.{Target, roll-Target}
+use Rattle.c_parser.specs.declared.tree.Target.{roll-Target}
 use Rattle.c_parser.specs.Symbols.{same_symbol}
-use Rattle.c_parser.specs.Input.{Outcome, Parser, and_then, ◌>>=◌, ◌>>◌, ◌<$>◌, pure, refuse, peek, position, take_token, eat, expect, open_nest, left, symbol, start, piece, after, after_if, sees}
-use Rattle.c_parser.specs.Values.{Rules, no_rules, signed_from, separated_from, separated, equal_sign, rel_sign, sum_sign, product_sign, unary_sign, subscript, subscripts_from, subscripts, target, arguments, call, named, operator, bracket, primary_by, primary, operand, unary_by, unary, product_rest, product, sum_rest, sum, compare_rest, compare, equal_rest, equal, and_value, or_value, arms, value, below}
+use Rattle.c_parser.specs.Input.{◌>>=◌, ◌>>◌, pure, expect, left, symbol, piece, after, after_if, sees}
+use Rattle.c_parser.specs.Values.{Rules, separated, equal_sign, rel_sign, sum_sign, product_sign, unary_sign, subscript, subscripts_from, subscripts, target, arguments, call, named, operator, bracket, primary_by, primary, operand, unary_by, unary, product_rest, product, sum_rest, sum, compare_rest, compare, equal_rest, equal, and_value, or_value, arms, value, below}
 use Rattle.c_parser.specs.Grammar as g
 use Rattle.c_parser.specs.Grammar.{Phrase, ◌then◌, token, word, empty, each, equal_token, rel_token, sum_token, product_token, unary_token, Forms, no_forms, nested}
 use Rattle.c_parser.proofs.TokenFacts.{seen, is_same, some_is}
@@ -71,12 +60,12 @@ abbrev pub Operand : (List UnarySign → Primary → Phrase) → List UnarySign 
 Operand form signs r t m = (more : List UnarySign) × (p : Primary) × (roll-Unary (record { signs = signs ++ more; primary = p }) ≡ t) × form more p r m
 
 -- the rules of one nest more read what its productions derive
-pub record Sound (inner : Rules) (forms : Forms) : Type 0 where
+pub record Derives (inner : Rules) (forms : Forms) : Type 0 where
   pub value : (r : Reading) → Yields r (λ t m. forms.value t r m) (inner.value r)
   pub sum : (r : Reading) → Yields r (λ t m. forms.sum t r m) (inner.sum r)
   pub unary : (signs : List UnarySign) (r : Reading) → Yields r (Operand forms.operand signs r) (inner.unary signs r)
 
-module _ (nests : ℕ) (inner : Rules) (forms : Forms) (h : Sound inner forms) where
+module _ (nests : ℕ) (inner : Rules) (forms : Forms) (h : Derives inner forms) where
 
   pub subscript_takes : (r : Reading) → symbol r ≡ s.OpenSquare → Takes r (λ t m. g.subscript nests forms t r m) (subscript nests inner r)
   unfolding subscript
@@ -240,9 +229,9 @@ module _ (nests : ℕ) (inner : Rules) (forms : Forms) (h : Sound inner forms) w
       then_yields m _ _ _ _ (arms_yield m) (λ b n e.
       (omega arith, record { test = a; arms = b; is = refl; derived = (m, d, e) })))
 
-pub nested_sound : (n : ℕ) → Sound (below n) (nested n)
+pub nested_derives : (n : ℕ) → Derives (below n) (nested n)
 unfolding below
-nested_sound zero = record { value = λ r. tt; sum = λ r. tt; unary = λ signs r. tt }
-nested_sound (suc n) =
-    let h : Sound (below n) (nested n) = nested_sound n in
+nested_derives zero = record { value = λ r. tt; sum = λ r. tt; unary = λ signs r. tt }
+nested_derives (suc n) =
+    let h : Derives (below n) (nested n) = nested_derives n in
     record { value = value_yields n (below n) (nested n) h; sum = sum_yields n (below n) (nested n) h; unary = unary_yields n (below n) (nested n) h }

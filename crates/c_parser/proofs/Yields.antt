@@ -1,18 +1,16 @@
 -- What a rule reads is derived by its production.
-use Rattle.std.proofs.Common.{◌≡◌, ℕ, zero, suc, ◌+◌, ◌≤◌, ◌<◌, ◌==◌, Bool, true, false, if◌then◌else◌, List, [], ◌∷◌, ◌++◌, Option, Some, None, Result, Ok, Err, inl, inr, refl, ap, sym, ◌∙◌, arith, append_assoc, subst}
+use Rattle.std.proofs.Common.{◌≡◌, ℕ, zero, suc, ◌≤◌, ◌<◌, ◌==◌, Bool, true, false, if◌then◌else◌, List, [], ◌∷◌, ◌++◌, Option, Some, None, Ok, Err, inl, inr, refl, sym, ◌∙◌, arith, append_assoc, subst}
 use Rattle.std.proofs.lemmas.List.{append-nil}
 use Rattle.std.proofs.lemmas.Bool.Decides.{eqb_tells}
 use Rattle.c_parser.specs.declared.stops.Stop.{Stop}
 use Rattle.c_lexer.specs.Readings.{Reading}
 use Rattle.c_parser.specs.declared.symbols.Symbol.{Symbol}
 use Rattle.c_parser.specs.declared.symbols.Symbol.TheVariants as s
-use Rattle.c_parser.specs.declared.tree.Piece.{Piece}
-use Rattle.c_parser.specs.Symbols.{same_symbol}
-use Rattle.c_parser.specs.Input.{Outcome, Parser, and_then, ◌>>=◌, ◌>>◌, ◌<$>◌, pure, refuse, peek, position, take_token, eat, expect, open_nest, left, symbol, start, piece, after, after_if, sees}
+use Rattle.c_parser.specs.Input.{Outcome, Parser, and_then, ◌>>=◌, ◌>>◌, pure, refuse, eat, expect, open_nest, left, symbol, piece, after, after_if, sees}
 use Rattle.c_parser.specs.Values.{go_on, signed_from, separated_from, separated}
 use Rattle.c_parser.specs.Grammar as g
 use Rattle.c_parser.specs.Grammar.{Phrase, ◌then◌, token, word, empty, signed, others, each}
-use Rattle.c_parser.proofs.TokenFacts.{seen, is_same, not_same, some_is, left_after, left_less, not_true}
+use Rattle.c_parser.proofs.TokenFacts.{seen, left_after, left_less, not_true}
 
 -- what is known of what a parser reads; reading goes on, never back
 abbrev pub Yields : {A : Type 0} → Reading → (A → Reading → Type 0) → Outcome A → Type 0
@@ -91,14 +89,14 @@ pub then_takes : {A B : Type 0} (r : Reading) (P : A → Reading → Type 0) (Q 
 then_takes r P Q (Ok y) f h k = narrower r y.1 Q (f y.0 y.1) h.0 (k y.0 y.1 h.1)
 then_takes r P Q (Err e) f h k = tt
 
--- a symbol that is one of a token
-abbrev pub IsToken : Symbol → Type 0
-IsToken k = (k ≡ s.End → ⊥) × (k ≡ s.Bad → ⊥)
+-- the symbol is that of a token
+abbrev pub OfToken : Symbol → Type 0
+OfToken k = (k ≡ s.End → ⊥) × (k ≡ s.Bad → ⊥)
 
-pub take_takes : {B : Type 0} (k : Symbol) (r : Reading) (Q : B → Reading → Type 0) (o : Outcome B) → symbol r ≡ k → IsToken k → Yields (after r) Q o → Takes r Q o
+pub take_takes : {B : Type 0} (k : Symbol) (r : Reading) (Q : B → Reading → Type 0) (o : Outcome B) → symbol r ≡ k → OfToken k → Yields (after r) Q o → Takes r Q o
 take_takes k r Q o e h g = narrower r (after r) Q o (left_less r (λ f. h.0 (sym e ∙ f)) (λ f. h.1 (sym e ∙ f))) g
 
-pub expect_takes : (k : Symbol) (r : Reading) → IsToken k → Takes r (λ p m. word k p r m) (expect k r)
+pub expect_takes : (k : Symbol) (r : Reading) → OfToken k → Takes r (λ p m. word k p r m) (expect k r)
 unfolding expect
 expect_takes k r h = go (sees k r) refl
   where

@@ -1,11 +1,10 @@
 -- The grammar of statements and regions, apart from how a text is read: which tokens are derived to which tree, one
 -- definition for each production. The numbers are those of the nests and of the loops that may be open at once.
-use Rattle.std.specs.Prelude.{◌≡◌, ◌≢◌, ◌⊎◌, ℕ, zero, suc, ◌<◌, Bool, true, false, List, [], ◌∷◌, Option, Some, None}
+use Rattle.std.specs.Prelude.{◌≡◌, ◌≢◌, ◌⊎◌, ℕ, zero, suc, ◌<◌, Bool, true, false, List, Option, Some, None}
 use Rattle.c_lexer.specs.Readings.{Reading, slice}
 use Rattle.c_parser.specs.declared.symbols.Symbol.{Symbol}
 use Rattle.c_parser.specs.declared.symbols.Symbol.TheVariants as s
 use Rattle.c_parser.specs.declared.tree.Piece.{Piece}
-use Rattle.c_parser.specs.declared.tree.Rel.{Rel}
 use Rattle.c_parser.specs.declared.tree.Step.{Step}
 use Rattle.c_parser.specs.declared.tree.Step.TheVariants as st
 use Rattle.c_parser.specs.declared.tree.AssignSign.{AssignSign}
@@ -15,7 +14,7 @@ use Rattle.c_parser.specs.declared.tree.Node.{Node}
 use Rattle.c_parser.specs.declared.tree.Node.TheVariants as node
 use Rattle.c_parser.specs.declared.heads.Head.{Head}
 use Rattle.c_parser.specs.declared.tree.Value.{Value}
-use Rattle.c_parser.specs.Input.{symbol, piece, start, after}
+use Rattle.c_parser.specs.Input.{symbol, piece, after}
 use Rattle.c_parser.specs.Statements.{is_upward, loop_of, branch_of}
 use Rattle.c_parser.specs.Grammar.{Phrase, ◌then◌, empty, none, token, word, begins, each, nest, rel_token, IsTarget, IsValue, nested}
 

@@ -6,5 +6,6 @@ pub mod Nests
 pub mod Statements
 pub mod Grammar
 pub mod Derivations
+pub mod Prefixes
 pub mod Regions
 pub mod Stops

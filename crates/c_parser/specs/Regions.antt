@@ -11,6 +11,7 @@ use Rattle.c_parser.specs.declared.tree.Region.{Region}
 use Rattle.c_parser.specs.Input.{Outcome}
 use Rattle.c_parser.specs.Statements.{region}
 use Rattle.c_parser.specs.Derivations.{Derived}
+use Rattle.c_parser.specs.Prefixes.{HasCause}
 
 -- reading begins at the span's first byte, in the text up to its end
 abbrev pub reading_at : List ℕ → Span → Reading
@@ -29,6 +30,12 @@ Answers nodes (Err (fail.Refused refusal)) = ⊥
 -- each tree that the span's tokens are derived to is answered
 abbrev pub Completes : List ℕ → Span → Result Region Fail → Type 0
 Completes bytes span result = (nodes : List Node) → IsRegion bytes span nodes → Answers nodes result
+
+-- a refusal has its cause
+abbrev pub HasReason : List ℕ → Span → Result Region Fail → Type 0
+HasReason bytes span (Ok found) = Unit {0}
+HasReason bytes span (Err fail.Memory) = Unit {0}
+HasReason bytes span (Err (fail.Refused refusal)) = HasCause (reading_at bytes span) refusal
 
 -- ---- by the rules that read
 

@@ -1,6 +1,6 @@
 -- Statements: one rule for each production of the grammar. The numbers are those of the nests and of the loops
 -- that may still be opened.
-use Rattle.std.specs.Prelude.{ℕ, zero, suc, Bool, true, false, if◌then◌else◌, ◌==◌, nat_lt, List, [], ◌∷◌, ◌++◌, Option, Some, None, Result, Ok, Err}
+use Rattle.std.specs.Prelude.{ℕ, zero, suc, Bool, true, false, if◌then◌else◌, ◌==◌, List, [], ◌∷◌, ◌++◌, Option, Some, None, Ok, Err}
 use Rattle.std.specs.Str.{bytes_eq}
 use Rattle.suite_base.specs.declared.refusals.Refusal.TheVariants.{TooDeep}
 use Rattle.c_lexer.specs.Readings.{Reading, slice}
@@ -18,13 +18,13 @@ use Rattle.c_parser.specs.declared.tree.Assign.{Assign}
 use Rattle.c_parser.specs.declared.tree.Node.{Node}
 use Rattle.c_parser.specs.declared.tree.Node.TheVariants as node
 use Rattle.c_parser.specs.declared.tree.Loop.{Loop, roll-Loop}
-use Rattle.c_parser.specs.declared.tree.Branch.{Branch, roll-Branch}
+use Rattle.c_parser.specs.declared.tree.Branch.{roll-Branch}
 use Rattle.c_parser.specs.declared.heads.Head.{Head}
 use Rattle.c_parser.specs.declared.tree.Sum.{Sum}
 use Rattle.c_parser.specs.declared.tree.Value.{Value}
 use Rattle.c_parser.specs.Symbols.{same_symbol}
-use Rattle.c_parser.specs.Input.{Parser, ◌>>=◌, ◌>>◌, ◌<$>◌, pure, refuse, peek, position, take_token, eat, expect, open_nest, here, left, symbol, sees, piece, after}
-use Rattle.c_parser.specs.Values.{Rules, below, value, target, rel_sign}
+use Rattle.c_parser.specs.Input.{Parser, ◌>>=◌, ◌>>◌, ◌<$>◌, pure, refuse, peek, position, take_token, eat, expect, open_nest, here, left, sees, piece, after}
+use Rattle.c_parser.specs.Values.{below, value, target, rel_sign}
 
 -- ---- what stands between the rules of values
 

@@ -1,5 +1,5 @@
 -- What a token is to the grammar.
-use Rattle.std.specs.Prelude.{ℕ, ◌+◌, ◌-◌, ◌*◌, Bool, if◌then◌else◌, ◌==◌, nat_lt, List, [], ◌∷◌, map, fold}
+use Rattle.std.specs.Prelude.{ℕ, ◌+◌, ◌-◌, ◌*◌, Bool, if◌then◌else◌, ◌==◌, nat_lt, List, [], ◌∷◌, map}
 use Rattle.std.specs.Str.{bytes_eq}
 use denote.Enum.Bare.{sameb}
 use Rattle.c_parser.specs.contracts.symbols.Symbol.{the_type}

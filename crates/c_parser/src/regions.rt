@@ -14,10 +14,15 @@ use suite_base::Fail;
 /// The tree of the region at `span`, beside its source. The text has fewer than 2^32 - 1 bytes, the
 /// span lies in it, and `span.first` is the place of byte `span.from`.
 ///
-/// The first token with which the grammar does not go on is refused, one token being read at a time:
-/// `BadToken` where none begins, `NumberTooLarge` at an integer above 2^127 - 1, `BadSyntax` where no
-/// region begins so, and `TooDeep` at the thirteenth nested `for` and where the 65th nest opens. Nests
-/// are brackets of any kind, the branches of an `if`, operands of unary signs, and what follows `?`.
+/// The answer is a tree exactly where the span's tokens are derived to it by the grammar with at most 64
+/// nests and 12 loops open at once, unless memory is wanting. Nests are brackets of any kind, the
+/// branches of an `if`, operands of unary signs, and what follows `?`.
+///
+/// A refusal has the place of the first token with which the rules do not go on; before it stand tokens of
+/// the grammar alone. `BadToken`: none begins there. `NumberTooLarge`: an integer above 2^127 - 1.
+/// `BadSyntax`: no text that begins with the tokens up to and with this one has a tree, whatever the
+/// depths; at the region's end this is the region itself. `TooDeep`: no such text has a tree within the
+/// depths, and the token is a `for` behind 12 others, or 64 tokens that open nests stand before it.
 pub fn parse_region<'a>(alloc: Global, bytes: &'a [u8], span: Span) -> Result<Region<'a>, Fail>
     requires small { length bytes.now < 2 ^ 32 - 1 }
     requires order { span.from ≤ span.to }
@@ -26,6 +31,7 @@ pub fn parse_region<'a>(alloc: Global, bytes: &'a [u8], span: Span) -> Result<Re
     ensures reads { spec.Parses bytes.now span result }
     ensures derived { IfOk result (λ found. spec.IsRegion bytes.now span found.nodes) }
     ensures complete { spec.Completes bytes.now span result }
+    ensures cause { spec.HasReason bytes.now span result }
 {
     read(alloc, bytes, span)
 }

@@ -46,7 +46,7 @@ fn read(alloc: std::alloc::Global, text: &[u8]) -> Outcome {
 
 #[test]
 fn statements(rt: HostRuntime) {
-    let cases: [(&[u8], Outcome); 30] = [
+    let cases: [(&[u8], Outcome); 36] = [
         (b"", Outcome::Nodes(0)),
         (b";", Outcome::Nodes(1)),
         (b"a = 1;", Outcome::Nodes(1)),
@@ -71,6 +71,21 @@ fn statements(rt: HostRuntime) {
             b"if (a == b && !(c || d)) x = 1; else { }",
             Outcome::Nodes(1),
         ),
+        (b"for (i = N; i > 0; i--) ;", Outcome::Nodes(1)),
+        (b"{ ; { } }", Outcome::Nodes(1)),
+        (
+            b"if (a) if (b) if (c) ; else ; else ;",
+            Outcome::Nodes(1),
+        ),
+        (
+            b"if (a) if (b) ; else ; else ; else ;",
+            Outcome::Syntax(1, 31),
+        ),
+        (
+            b"a = f(b ? g(c ? 1 : 2, d) : h(e ? 3 : 4));",
+            Outcome::Nodes(1),
+        ),
+        (b"a = f(b ? 1);", Outcome::Syntax(1, 12)),
         (b"a = max(1, min(2, ceild(n, 2)));", Outcome::Nodes(1)),
         (b"a = 1e+5 + 0x1e+2 * 007 % 2..3;", Outcome::Nodes(1)),
         (b"a = - - + !b;", Outcome::Nodes(1)),
@@ -115,7 +130,7 @@ fn repeated(
 
 #[test]
 fn depths(rt: HostRuntime) -> Result<(), Failed> {
-    let cases: [(&[u8], usize, &[u8], Outcome); 15] = [
+    let cases: [(&[u8], usize, &[u8], Outcome); 20] = [
         (b"for(i=0;i<2;i++)", 12, b";", Outcome::Nodes(1)),
         (b"for(i=0;i<2;i++)", 13, b";", Outcome::Deep(1, 193)),
         (b"{", 64, b"", Outcome::Syntax(1, 65)),
@@ -131,6 +146,11 @@ fn depths(rt: HostRuntime) -> Result<(), Failed> {
         (b"{", 64, b"a[0] = 1;", Outcome::Deep(1, 66)),
         (b"{", 64, b"a = -1;", Outcome::Deep(1, 69)),
         (b"{", 64, b"a = b ? 1 : 2;", Outcome::Deep(1, 71)),
+        (b"b[-(", 21, b"(1", Outcome::Syntax(1, 87)),
+        (b"b[-(", 21, b"((", Outcome::Deep(1, 86)),
+        (b"if(a){", 32, b";", Outcome::Syntax(1, 194)),
+        (b"if(a){", 32, b"{", Outcome::Deep(1, 193)),
+        (b"if(a){", 32, b"if(a)", Outcome::Deep(1, 195)),
     ];
     for (piece, count, end, wanted) in cases {
         let text = repeated(rt.alloc(), piece, count, end)?;

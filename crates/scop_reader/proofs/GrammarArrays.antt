@@ -25,7 +25,8 @@ use Rattle.scop_reader.proofs.GrammarParts.{within_then, push_list}
 
 -- ---- one array
 
-abbrev Array : Type 0
+-- an identifier and a name
+abbrev pub Array : Type 0
 Array = ℤ × List ℕ
 
 number_makes : (line : Line) (u : Word) (n : ℤ) → number_read u.bytes ≡ Value n → int_le (pos 1) n ≡ true → number_in line (at_least 1) u (number_read u.bytes) ≡ Ok n

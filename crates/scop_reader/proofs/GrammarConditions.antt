@@ -1,9 +1,9 @@
 -- What the rules ask of a statement, and what its pieces are asked: printable, of fitting shapes, within the limits.
-use Rattle.std.proofs.Common.{◌≡◌, refl, sym, ap, ◌∙◌, Option, Some, None, ℕ, List, [], ◌∷◌, length, map, Bool, true, false, ◌&&◌, ◌==◌}
+use Rattle.std.proofs.Common.{inl, inr, ◌≤◌, ◌<◌, suc, arith, ◌≡◌, refl, sym, ap, ◌∙◌, Option, Some, None, ℕ, List, [], ◌∷◌, length, map, Bool, true, false, ◌&&◌, ◌==◌}
 use Rattle.std.specs.Prelude.{nat_lt, ◌||◌, if◌then◌else◌, IfSome, All}
 use Rattle.std.specs.List.{AllByRecursion}
 use Rattle.std.proofs.lemmas.Bool.{and_parts, and_from, or_parts, or_from}
-use Rattle.std.proofs.lemmas.Bool.Decides.{Decides-eqb}
+use Rattle.std.proofs.lemmas.Bool.Decides.{leb_tells, Decides-eqb}
 use Rattle.std.proofs.lemmas.List.Elements.{All-from_recursion, recursion_from_All}
 use Rattle.suite_base.specs.declared.refusals.Refusal.TheVariants.{Limit}
 use Rattle.suite_base.specs.declared.refusals.Which.TheVariants as which
@@ -26,6 +26,13 @@ use Rattle.scop_reader.proofs.GrammarExtensions.{ItemsFit}
 pub no_limit : {X : Type 0} (b : Bool) (x : X) (o : Option X) → (if b then Some x else o) ≡ None → (b ≡ false) × (o ≡ None)
 no_limit true x o e = absurd (cc)
 no_limit false x o e = (refl, e)
+
+pub most : (n m : ℕ) → nat_lt n m ≡ false → m ≤ n
+most n m e =
+    elim (leb_tells (suc n) m) [
+      | inl above ↦ absurd (let no : true ≡ false = sym above.0 ∙ e in cc)
+      | inr below ↦ let low : m < suc n = below.1 in omega arith
+    ]
 
 -- a part passes no limit of its role
 pub record Low (role : Role) (p : System) : Type 0 where

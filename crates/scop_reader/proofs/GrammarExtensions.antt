@@ -1,5 +1,5 @@
 -- Extensions, read and said: by a rule of their own or kept line by line, and one after another.
-use Rattle.std.proofs.Common.{◌≡◌, refl, sym, ap, ◌∙◌, Option, Some, None, ℕ, ℤ, ◌+◌, ◌-◌, ◌≤◌, ◌<◌, zero, suc, List, [], ◌∷◌, ◌++◌, length, map, take, Ok, Bool, true, false, not, ◌&&◌, ◌⊎◌, inl, inr, arith, append_assoc}
+use Rattle.std.proofs.Common.{◌≡◌, refl, sym, ap, ◌∙◌, Option, Some, None, ℕ, ◌+◌, ◌-◌, ◌≤◌, ◌<◌, zero, suc, List, [], ◌∷◌, ◌++◌, length, map, take, Ok, Bool, true, false, not, ◌&&◌, ◌⊎◌, inl, inr, arith, append_assoc}
 use Rattle.std.specs.Prelude.{if◌then◌else◌}
 use Rattle.std.specs.List.{flat_map}
 use Rattle.std.specs.Str.{bytes_eq}
@@ -19,12 +19,12 @@ use Rattle.scop_reader.specs.Rules
 use Rattle.scop_reader.specs.Rules.{kept_from, kept_lines, kept, opened_name, is_opening, Extensions, is_none, extension, extensions_from, no_extensions, globals_from, globals, close_word}
 use Rattle.scop_reader.specs.Documents.{Said, Literal, Raw, End, says, is_raw, behind, behind_all, Item, Special, Kept, open_line, said_item, said_body, said_arrays, first_special, kept_items}
 use Rattle.scop_reader.specs.Texts.{has_no_special, has_one_special}
-use Rattle.scop_reader.proofs.GrammarLines.{then_ok, check_then, read_ok, same_value, same_left, behind_line, line_behind, are_lines, all_keeps, if_cases, split, split_one, join, join_one, one_alone, alone_one, all_fewer, behind_fewer}
+use Rattle.scop_reader.proofs.GrammarLines.{false_of, then_ok, check_then, read_ok, same_value, same_left, behind_line, line_behind, are_lines, all_keeps, if_cases, split, split_one, join, join_one, one_alone, alone_one, all_fewer, behind_fewer}
 use Rattle.scop_reader.proofs.GrammarWords.{literal_reads, literal_said}
 use Rattle.scop_reader.proofs.GrammarParts.{push_list}
 use Rattle.scop_reader.proofs.GrammarRelations.{next_is}
 use Rattle.scop_reader.proofs.GrammarBodies.{said_behind_body, IsBody, body_reads, body_said}
-use Rattle.scop_reader.proofs.GrammarArrays.{said_behind_arrays, AreArrays, arrays_reads, arrays_said}
+use Rattle.scop_reader.proofs.GrammarArrays.{Array, said_behind_arrays, AreArrays, arrays_reads, arrays_said}
 
 -- ---- lines as they are
 
@@ -62,10 +62,6 @@ kept_from_reads name (l ∷ ls) found n (line ∷ text) now h e =
     let other : bytes_eq (trim line) (end_line name) ≡ false = ap (λ (t : List ℕ). bytes_eq (trim t) (end_line name)) same ∙ false_of (bytes_eq (trim l) (end_line name)) (and_parts (has_no 10 l) (not (bytes_eq (trim l) (end_line name))) both.0).1 in
     let more = kept_from_reads name ls (found ++ line ∷ []) (n + 1) text now both.1 (ap (behind_all (said_to_end name ls)) one.1 ∙ s.second) in
     rw other (more ∙ ap (λ (t : List (List ℕ)). read_ok t now) (push_list found line ls ∙ ap (λ (t : List ℕ). found ++ t ∷ ls) same))
-  where
-    false_of : (b : Bool) → not b ≡ true → b ≡ false
-    false_of true k = absurd (cc)
-    false_of false k = refl
 
 record KeptRead (name : List ℕ) (n : ℕ) (found all text : List (List ℕ)) (now : Rest) : Type 0 where
   lines : List (List ℕ)
@@ -156,10 +152,6 @@ pub if_reader : {B : Type 0} (b : Bool) (p q : Reader B) (rest : Rest) (z : Outc
 if_reader true p q rest z e = inl (refl, e)
 if_reader false p q rest z e = inr (refl, e)
 
-not_true : (b : Bool) → not b ≡ true → b ≡ false
-not_true true h = absurd (cc)
-not_true false h = refl
-
 module _ {A : Type 0} (special : List ℕ) (rule : Reader A) (said_rule tail : A → List Said) (D : A → Type 0) (is : IsRule special rule said_rule tail D) where
   pub item_reads : (item : Item A) (found : Extensions A) (rest now : Rest) → ItemFits special D item → can_follow found item ≡ true → behind_all (said_item said_rule item) rest ≡ Some now
       → extension special rule found rest ≡ Ok (with_item found item, now)
@@ -180,7 +172,7 @@ module _ {A : Type 0} (special : List ℕ) (rule : Reader A) (said_rule tail : A
       let same : content l.line.bytes ≡ open_line x.name = (bytes_eq-Decides (content l.line.bytes) (open_line x.name)).0 l.said_is in
       let open_it : is_opening (content l.line.bytes) ≡ true = ap is_opening same ∙ open_is x.name own.0 in
       let named : opened_name (content l.line.bytes) ≡ x.name = ap opened_name same ∙ opened x.name in
-      let other : bytes_eq (opened_name (content l.line.bytes)) special ≡ false = ap (λ (n : List ℕ). bytes_eq n special) named ∙ not_true (bytes_eq x.name special) own.1 in
+      let other : bytes_eq (opened_name (content l.line.bytes)) special ≡ false = ap (λ (n : List ℕ). bytes_eq n special) named ∙ false_of (bytes_eq x.name special) own.1 in
       let lines : kept (opened_name (content l.line.bytes)) s.mid ≡ Ok (x, now) = ap (λ (n : List ℕ). kept n s.mid) named ∙ kept_reads x s.mid now all.1 s.second in
       rw (l.read, open_it, other, lines) refl
 
@@ -334,9 +326,6 @@ items_said iterators (suc n) next found rest now h e =
     }
 
 -- ---- the global extensions
-
-abbrev Array : Type 0
-Array = ℤ × List ℕ
 
 arrays_is : IsRule arrays_name Rules.arrays said_arrays said_behind_arrays AreArrays
 arrays_is = record {

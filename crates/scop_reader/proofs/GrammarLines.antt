@@ -1,5 +1,5 @@
 -- Readers taken apart step by step, and what is left behind the lines that say something.
-use Rattle.std.proofs.Common.{◌≡◌, refl, sym, ap, subst, ◌∙◌, Option, Some, None, ℕ, ◌+◌, ◌≤◌, ◌<◌, suc, List, [], ◌∷◌, ◌++◌, length, Result, Ok, Err, Bool, true, false, ◌&&◌, ◌==◌, ◌⊎◌, inl, inr, arith}
+use Rattle.std.proofs.Common.{not, ◌≡◌, refl, sym, ap, subst, ◌∙◌, Option, Some, None, ℕ, ◌+◌, ◌≤◌, ◌<◌, suc, List, [], ◌∷◌, ◌++◌, length, Result, Ok, Err, Bool, true, false, ◌&&◌, ◌==◌, ◌⊎◌, inl, inr, arith}
 use Rattle.std.specs.Prelude.{if◌then◌else◌}
 use Rattle.std.proofs.lemmas.Bool.{and_parts, eqb-true}
 use Rattle.suite_base.specs.declared.refusals.Refusal.{Refusal}
@@ -12,8 +12,9 @@ use Rattle.scop_reader.specs.Documents.{Said, says, is_raw, behind_first, behind
 
 -- ---- tests
 
-pub true_not_false : {X : Type 0} → true ≡ false → X
-true_not_false e = absurd (cc)
+pub false_of : (b : Bool) → not b ≡ true → b ≡ false
+false_of true e = absurd (cc)
+false_of false e = refl
 
 pub if_cases : {A : Type 0} (b : Bool) (x y z : A) → (if b then x else y) ≡ z → ((b ≡ true) × (x ≡ z)) ⊎ ((b ≡ false) × (y ≡ z))
 if_cases true x y z e = inl (refl, e)

@@ -19,10 +19,10 @@ use Rattle.scop_reader.specs.declared.roles.Role.{Role}
 use Rattle.scop_reader.specs.Lines.{Rest, Line, Word, words_of, word_bytes}
 use Rattle.scop_reader.specs.Reading.{Reader, and_then, said_line, number_in, numbers_in, is_count, is_any}
 use Rattle.scop_reader.specs.Rules
-use Rattle.scop_reader.specs.Rules.{Header, header_of, header_limit, header_line, counts_line, is_shaped, suits, number_at, is_kind, kind_of, row_numbers, row_of, row_line, rows_from, role_behind, parts_from, is_counted, part_count, counted, within}
+use Rattle.scop_reader.specs.Rules.{Header, counts_line, header_of, header_limit, header_line, is_shaped, suits, number_at, is_kind, kind_of, row_numbers, row_of, row_line, rows_from, role_behind, parts_from, is_counted, part_count, counted, within}
 use Rattle.scop_reader.specs.Documents.{Numbers, naturals, header_numbers, kind_number, said_row, said_part, are_numbers, is_value, behind, behind_all}
 use Rattle.scop_reader.specs.Texts.{are_wide}
-use Rattle.scop_reader.proofs.GrammarLines.{then_ok, regroup, check_then, unless_then, result_then, read_ok, same_value, same_left, behind_line, line_behind, split_one, join_one}
+use Rattle.scop_reader.proofs.GrammarLines.{then_ok, check_then, unless_then, result_then, read_ok, same_value, same_left, behind_line, line_behind, split_one, join_one}
 use Rattle.scop_reader.proofs.GrammarWords.{number_line_reads, number_line_said, numbers_read, numbers_said, length-are_numbers, length-word_bytes, all_pass, value_is, is_its_value, number_in_ok, with_number_ok, at_least_passes}
 
 -- ---- limits of counts
@@ -70,10 +70,17 @@ all_counts : (ms : List ℕ) → all_pass is_count (naturals ms) ≡ true
 all_counts [] = refl
 all_counts (m ∷ ms) = and_from (is_count (pos m)) (all_pass is_count (naturals ms)) (at_least_passes 0 m (omega arith)) (all_counts ms)
 
+counts_reads : (h : Header) (rest now : Rest) → behind (Numbers (numbers_of h)) rest ≡ Some now → (line : Line) × (counts_line rest ≡ Ok ((line, h), now))
+unfolding counts_line
+counts_reads h rest now e =
+    let ns : List ℕ = h.rows ∷ (h.columns ∷ (h.shape.outputs ∷ (h.shape.inputs ∷ (h.shape.locals ∷ (h.shape.parameters ∷ []))))) in
+    let read = number_line_reads 6 is_count (numbers_of h) rest now (record { size = refl; pass = all_counts ns; said = e }) in
+    (read.0, rw (read.1) refl)
+
 pub header_reads : (role : Role) (k : ℕ) (h : Header) (rest now : Rest) → is_shaped role h ≡ true → header_limit role k h ≡ None → behind (Numbers (numbers_of h)) rest ≡ Some now → header_line role k rest ≡ Ok (h, now)
-unfolding header_line counts_line
+unfolding header_line
 header_reads role k h rest now shaped limit e =
-    let read = number_line_reads 6 is_count (numbers_of h) rest now (record { size = refl; pass = all_counts (h.rows ∷ (h.columns ∷ (h.shape.outputs ∷ (h.shape.inputs ∷ (h.shape.locals ∷ (h.shape.parameters ∷ [])))))); said = e }) in
+    let read = counts_reads h rest now e in
     rw (read.1, shaped, limit) refl
 
 pub record HeaderLine (role : Role) (k : ℕ) (h : Header) (rest now : Rest) : Type 0 where
@@ -81,18 +88,28 @@ pub record HeaderLine (role : Role) (k : ℕ) (h : Header) (rest now : Rest) : T
   pub limit : header_limit role k h ≡ None
   pub said : behind (Numbers (numbers_of h)) rest ≡ Some now
 
-pub header_said : (role : Role) (k : ℕ) (h : Header) (rest now : Rest) → header_line role k rest ≡ Ok (h, now) → HeaderLine role k h rest now
-unfolding header_line counts_line
-header_said role k h rest now e =
-    let t = then_ok (Rules.number_line 6 is_count rest) _ h now (regroup (Rules.number_line 6 is_count rest) _ _ (Ok (h, now)) e) in
+counts_said : (p : Line × Header) (rest now : Rest) → counts_line rest ≡ Ok (p, now) → behind (Numbers (numbers_of p.1)) rest ≡ Some now
+unfolding counts_line
+counts_said p rest now e =
+    let t = then_ok (Rules.number_line 6 is_count rest) _ p now e in
     let made : Header = header_of (Rules.naturals t.value.1) in
     let line = number_line_said 6 is_count t.value rest t.mid t.first in
-    let c = check_then (is_shaped role made) (BadScop t.value.0.number) t.mid _ h now t.second in
-    let u = unless_then (header_limit role k made) t.mid _ h now c.1 in
-    let same : made ≡ h = same_value made h t.mid now u.1 in
-    let left : t.mid ≡ now = same_left made h t.mid now u.1 in
+    let pair : Line × Header = (t.value.0, made) in
+    let same : pair ≡ p = same_value pair p t.mid now t.second in
+    let left : t.mid ≡ now = same_left pair p t.mid now t.second in
     let numbers : numbers_of made ≡ t.value.1 = six (Rules.naturals t.value.1) (length-naturals t.value.1 ∙ line.size) ∙ back t.value.1 line.pass in
     let said : behind (Numbers (numbers_of made)) rest ≡ Some t.mid = rw numbers line.said in
+    subst (λ (x : Line × Header). behind (Numbers (numbers_of x.1)) rest ≡ Some now) same (said ∙ ap (λ (r : Rest). Some r) left)
+
+pub header_said : (role : Role) (k : ℕ) (h : Header) (rest now : Rest) → header_line role k rest ≡ Ok (h, now) → HeaderLine role k h rest now
+unfolding header_line
+header_said role k h rest now e =
+    let t = then_ok (counts_line rest) _ h now e in
+    let said = counts_said t.value rest t.mid t.first in
+    let c = check_then (is_shaped role t.value.1) (BadScop t.value.0.number) t.mid _ h now t.second in
+    let u = unless_then (header_limit role k t.value.1) t.mid _ h now c.1 in
+    let same : t.value.1 ≡ h = same_value t.value.1 h t.mid now u.1 in
+    let left : t.mid ≡ now = same_left t.value.1 h t.mid now u.1 in
     subst (λ (x : Header). HeaderLine role k x rest now) same (record { shaped = c.0; limit = u.0; said = said ∙ ap (λ (r : Rest). Some r) left })
 
 -- ---- rows

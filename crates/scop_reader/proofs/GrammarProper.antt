@@ -33,16 +33,16 @@ use Rattle.scop_reader.proofs.GrammarConditions.{no_limit, low_of, low_back, tes
 
 -- ---- the limits of a statement
 
-record StatementLow (raw : RawStatement) : Type 0 where
-  iterators : some_above OutputCount 12 raw.domain ≡ false
-  levels : some_above OutputCount 49 raw.scattering ≡ false
-  locals : statement_above LocalCount 24 raw ≡ false
-  rows : statement_above RowCount 256 raw ≡ false
-  parts : has_many_parts raw ≡ false
-  accesses : nat_lt 256 (length raw.accesses) ≡ false
-  subscripts : accesses_above OutputCount 13 raw.accesses ≡ false
+pub record StatementLow (raw : RawStatement) : Type 0 where
+  pub iterators : some_above OutputCount 12 raw.domain ≡ false
+  pub levels : some_above OutputCount 49 raw.scattering ≡ false
+  pub locals : statement_above LocalCount 24 raw ≡ false
+  pub rows : statement_above RowCount 256 raw ≡ false
+  pub parts : has_many_parts raw ≡ false
+  pub accesses : nat_lt 256 (length raw.accesses) ≡ false
+  pub subscripts : accesses_above OutputCount 13 raw.accesses ≡ false
 
-statement_low : (k : ℕ) (raw : RawStatement) → statement_limit k raw ≡ None → StatementLow raw
+pub statement_low : (k : ℕ) (raw : RawStatement) → statement_limit k raw ≡ None → StatementLow raw
 statement_low k raw e =
     let l7 = if accesses_above OutputCount 13 raw.accesses then Some (Limit which.Subscripts k) else None in
     let l6 = if nat_lt 256 (length raw.accesses) then Some (Limit which.Accesses k) else l7 in
@@ -230,7 +230,7 @@ pub record AllProper (parameters k : ℕ) (statements : List StatementText) : Ty
   pub limit : first_limit k (map statement_pieces statements) ≡ None
   pub are : are_statements statements ≡ true
 
-no_first : {X : Type 0} (a b : Option X) → or_else a b ≡ None → (a ≡ None) × (b ≡ None)
+pub no_first : {X : Type 0} (a b : Option X) → or_else a b ≡ None → (a ≡ None) × (b ≡ None)
 no_first None b e = (refl, e)
 no_first (Some x) b e = absurd (cc)
 
@@ -289,13 +289,13 @@ arrays_join (Some arrays) h k = record { are = h; few = k }
 
 -- ---- the limits of the whole
 
-record WholeLow (pieces : ScopPieces) : Type 0 where
-  statements : nat_lt 1024 (length pieces.statements) ≡ false
-  parameters : nat_lt 16 pieces.context.shape.parameters ≡ false
-  rows : nat_lt 256 (length pieces.context.rows) ≡ false
-  arrays : nat_lt 4096 (array_count pieces.arrays) ≡ false
+pub record WholeLow (pieces : ScopPieces) : Type 0 where
+  pub statements : nat_lt 1024 (length pieces.statements) ≡ false
+  pub parameters : nat_lt 16 pieces.context.shape.parameters ≡ false
+  pub rows : nat_lt 256 (length pieces.context.rows) ≡ false
+  pub arrays : nat_lt 4096 (array_count pieces.arrays) ≡ false
 
-whole_low : (pieces : ScopPieces) → whole_limit pieces ≡ None → WholeLow pieces
+pub whole_low : (pieces : ScopPieces) → whole_limit pieces ≡ None → WholeLow pieces
 whole_low pieces e =
     let l4 = if nat_lt 4096 (array_count pieces.arrays) then Some (Limit which.Arrays 0) else None in
     let l3 = if nat_lt 256 (length pieces.context.rows) then Some (Limit which.Rows 0) else l4 in

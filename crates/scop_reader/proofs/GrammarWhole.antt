@@ -17,10 +17,10 @@ use Rattle.scop_reader.specs.declared.roles.Role.TheVariants.{Context}
 use Rattle.scop_reader.specs.Lines.{Rest}
 use Rattle.scop_reader.specs.Reading.{Outcome, Reader, ◌>>=◌, ◌>>◌, pure, and_then, said_line, first_of, literal, word_line}
 use Rattle.scop_reader.specs.Rules
-use Rattle.scop_reader.specs.Rules.{statements_from, statement_count, names, parameter_names, Extensions, no_extensions, globals, close_word, open_word, from_open, opening, no_second, no_more, one_word, scop}
+use Rattle.scop_reader.specs.Rules.{statements_from, statement_count, names, parameter_names, Extensions, no_extensions, globals, close_word, open_word, from_open, opening, no_second, no_more, scop}
 use Rattle.scop_reader.specs.Documents.{Said, Literal, Words, count, Item, StatementText, Document, said_names, said_statement, said_parameters, statement_pieces, pieces_of, first_special, kept_items, behind, behind_all}
 use Rattle.scop_reader.specs.Texts.{has_one_special, IsTextOf, pieces_in, answer_of}
-use Rattle.scop_reader.proofs.GrammarLines.{then_ok, regroup, check_then, unless_then, read_ok, same_value, same_left, behind_line, line_behind, are_lines, lines_are, all_keeps, split, split_one, join, join_one, one_alone, alone_one}
+use Rattle.scop_reader.proofs.GrammarLines.{then_ok, check_then, unless_then, read_ok, same_value, same_left, behind_line, line_behind, are_lines, lines_are, all_keeps, split, split_one, join, join_one, one_alone, alone_one}
 use Rattle.scop_reader.proofs.GrammarWords.{literal_reads, literal_said, word_line_reads, word_line_said, read_words_named, same_ok, not_ok}
 use Rattle.scop_reader.proofs.GrammarParts.{Fits}
 use Rattle.scop_reader.proofs.GrammarRelations.{said_the_context, context_reads, context_said}
@@ -96,6 +96,28 @@ parameters_said n o rest now h e =
           (subst (NamesFit n) same tt, subst (λ (x : Option (List (List ℕ))). behind_all (said_parameters x) rest ≡ Some now) same said)
     ]
 
+-- ---- the language
+
+one_language : (ws : List (List ℕ)) → length ws ≡ 1 → ws ≡ first_of ws ∷ []
+one_language [] e = absurd (omega (arith, e))
+one_language (w ∷ []) e = refl
+one_language (w ∷ v ∷ ws) e = absurd (omega (arith, e))
+
+one_word_reads : (word : List ℕ) (rest now : Rest) → behind (Words (word ∷ [])) rest ≡ Some now → Rules.one_word rest ≡ Ok (word, now)
+unfolding Rules.one_word
+one_word_reads word rest now e = rw (word_line_reads 1 (word ∷ []) rest now e refl) refl
+
+one_word_said : (word : List ℕ) (rest now : Rest) → are_lines rest.lines ≡ true → Rules.one_word rest ≡ Ok (word, now) → (is_name word ≡ true) × (behind (Words (word ∷ [])) rest ≡ Some now)
+unfolding Rules.one_word
+one_word_said word rest now h e =
+    let t = then_ok (word_line 1 rest) _ word now e in
+    let w = word_line_said 1 t.value rest t.mid t.first in
+    let named = read_words_named 1 t.value rest t.mid w h in
+    let same : first_of t.value ≡ word = same_value (first_of t.value) word t.mid now t.second in
+    let left : t.mid ≡ now = same_left (first_of t.value) word t.mid now t.second in
+    let is : t.value ≡ word ∷ [] = one_language t.value w.size ∙ ap (λ (v : List ℕ). v ∷ []) same in
+    ((and_parts (is_name word) true (ap are_names (sym is) ∙ named)).0, ap (λ (ws : List (List ℕ)). behind (Words ws) rest) (sym is) ∙ (w.said ∙ ap (λ (r : Rest). Some r) left))
+
 -- ---- the lines that are read
 
 from_open_keeps : (n : ℕ) (ls : List (List ℕ)) → are_lines ls ≡ true → are_lines (from_open n ls).lines ≡ true
@@ -130,7 +152,7 @@ abbrev first_rest : List ℕ → Rest
 first_rest bytes = record { number = 1; lines = lines bytes }
 
 scop_reads : (bytes : List ℕ) (d : Document) → DocumentFits d → (text : IsTextOf bytes d) → scop (first_rest bytes) ≡ Ok (pieces_of d, text.rest)
-unfolding scop opening one_word
+unfolding scop opening
 scop_reads bytes d fits text =
     let start : Rest = from_open 1 (lines bytes) in
     let end : Rest = text.rest in
@@ -145,7 +167,7 @@ scop_reads bytes d fits text =
     let c5 = split (flat_map said_statement d.statements) (said_to_close d.items) c4.mid end c4.second in
     rw (
       literal_reads open_word start c0.mid c0.first,
-      word_line_reads 1 (d.language ∷ []) c0.mid c1.mid c1.first refl,
+      one_word_reads d.language c0.mid c1.mid c1.first,
       context_reads d.is_counted d.context c1.mid c2.mid fits.context c2.first,
       parameters_reads ps d.parameters c2.mid c3.mid fits.names c3.first,
       statement_count_reads (length d.statements) c3.mid c4.mid fits.few c4.first,
@@ -165,11 +187,6 @@ pub record DocumentRead (bytes : List ℕ) (pieces : ScopPieces) : Type 0 where
   pub fits : DocumentFits document
   pub text : IsTextOf bytes document
   pub pieces_are : pieces ≡ pieces_of document
-
-one_language : (ws : List (List ℕ)) → length ws ≡ 1 → ws ≡ first_of ws ∷ []
-one_language [] e = absurd (omega (arith, e))
-one_language (w ∷ []) e = refl
-one_language (w ∷ v ∷ ws) e = absurd (omega (arith, e))
 
 -- the statements and what follows them
 abbrev behind_parameters : List ℕ → System → Option (List (List ℕ)) → Reader ScopPieces
@@ -228,19 +245,16 @@ made_pieces language context parameters found all statements items pieces mid no
     ∙ ap (λ (f : Extensions (List (ℤ × List ℕ))). record { language = language; context = context; parameters = parameters; statements = map statement_pieces statements; arrays = f.special; extensions = f.others }) x)
 
 text_head : (bytes : List ℕ) (pieces : ScopPieces) (now : Rest) → scop (first_rest bytes) ≡ Ok (pieces, now) → Head bytes pieces now
-unfolding scop opening one_word
+unfolding scop opening
 text_head bytes pieces now e =
     let start : Rest = from_open 1 (lines bytes) in
     let h : are_lines start.lines ≡ true = from_open_keeps 1 (lines bytes) (lines_are bytes) in
     let t0 = then_ok (literal open_word start) _ pieces now e in
     let s0 = literal_said open_word start t0.mid t0.value t0.first in
     let h0 : are_lines t0.mid.lines ≡ true = all_keeps (Literal open_word ∷ []) start t0.mid (one_alone (Literal open_word) start t0.mid s0) h in
-    let t1 = then_ok (word_line 1 t0.mid) _ pieces now (regroup (word_line 1 t0.mid) _ _ (Ok (pieces, now)) t0.second) in
-    let w = word_line_said 1 t1.value t0.mid t1.mid t1.first in
-    let named = read_words_named 1 t1.value t0.mid t1.mid w h0 in
-    let one : t1.value ≡ first_of t1.value ∷ [] = one_language t1.value w.size in
-    let s1 : behind (Words (first_of t1.value ∷ [])) t0.mid ≡ Some t1.mid = ap (λ (ws : List (List ℕ)). behind (Words ws) t0.mid) (sym one) ∙ w.said in
-    let h1 : are_lines t1.mid.lines ≡ true = all_keeps (Words (first_of t1.value ∷ []) ∷ []) t0.mid t1.mid (one_alone (Words (first_of t1.value ∷ [])) t0.mid t1.mid s1) h0 in
+    let t1 = then_ok (Rules.one_word t0.mid) _ pieces now t0.second in
+    let w = one_word_said t1.value t0.mid t1.mid h0 t1.first in
+    let h1 : are_lines t1.mid.lines ≡ true = all_keeps (Words (t1.value ∷ []) ∷ []) t0.mid t1.mid (one_alone (Words (t1.value ∷ [])) t0.mid t1.mid w.1) h0 in
     let t2 = then_ok (Rules.context t1.mid) _ pieces now t1.second in
     let c = context_said t2.value t1.mid t2.mid t2.first in
     let h2 : are_lines t2.mid.lines ≡ true = all_keeps (said_the_context c.0 t2.value) t1.mid t2.mid c.2 h1 in
@@ -249,10 +263,10 @@ text_head bytes pieces now e =
     record {
       r0 = t0.mid;
       opened = s0;
-      language = first_of t1.value;
+      language = t1.value;
       r1 = t1.mid;
-      named = (and_parts (is_name (first_of t1.value)) true (ap are_names (sym one) ∙ named)).0;
-      language_said = s1;
+      named = w.0;
+      language_said = w.1;
       is_counted = c.0;
       context = t2.value;
       r2 = t2.mid;

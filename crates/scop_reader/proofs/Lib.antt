@@ -23,3 +23,11 @@ pub mod FewerLines
 pub mod GlobalTurns
 pub mod OpenLines
 pub mod ReadScops
+pub mod GrammarPrinted
+pub mod GrammarSpelled
+pub mod GrammarGood
+pub mod GrammarFormed
+pub mod GrammarLayout
+pub mod GrammarHeld
+pub mod GrammarRanges
+pub mod GrammarReadBack

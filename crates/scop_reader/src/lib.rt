@@ -7,6 +7,7 @@ mod cursors;
 mod extension_names;
 mod headers;
 mod kept_lines;
+pub mod laws;
 mod line_rules;
 mod line_words;
 mod number_words;

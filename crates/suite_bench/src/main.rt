@@ -29,7 +29,11 @@ fn main(rt: HostRuntime) -> Result<(), Fail> {
             let t = level_times(&rt, rt.alloc(), &base, level, ROUNDS)?;
             eprintln!(rt;
                 "{pair} level {}: decide {} ns, decide_by {} ns, decide_with {} ns, {}",
-                level + 1, t.dense, t.sparse, t.shared, t.end.words()
+                level + 1,
+                t.dense,
+                t.sparse,
+                t.shared,
+                t.end.words()
             )?;
         }
     }
@@ -37,7 +41,10 @@ fn main(rt: HostRuntime) -> Result<(), Fail> {
     let t = nest_totals(&rt, rt.alloc(), 1_000)?;
     eprintln!(rt;
         "1,000 nests: decide {} us, decide_by {} us, reduce {} us, decide_with {} us",
-        t.dense / 1_000, t.sparse / 1_000, t.reduction / 1_000, t.shared / 1_000
+        t.dense / 1_000,
+        t.sparse / 1_000,
+        t.reduction / 1_000,
+        t.shared / 1_000
     )?;
     eprintln!(rt;
         "1,000 nests: {} with a point, {} empty, {} past a limit",

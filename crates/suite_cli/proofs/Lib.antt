@@ -1,7 +1,9 @@
+mod Checks
 pub mod TextCuts
 pub mod FirstForms
 pub mod WordLists
 pub mod ShortNumbers
-pub mod RunAnswers
 pub mod Printables
 pub mod Assembled
+pub mod ScopTexts
+pub mod RunAnswers

@@ -1,16 +1,23 @@
-use Rattle.std.proofs.Common.{◌≡◌, ◌⊎◌, inl, inr, ℕ, ◌<◌, ◌≤◌, Bool, true, List, [], ◌∷◌, ◌++◌, Option, Some, None, IfSome, IsSomeAnd, Result, Ok, Err, OnOk, OnErr, length, refl, ap, sym, ◌∙◌, subst, arith}
+-- What a run tells is what its outcome asks.
+use Rattle.std.proofs.Common.{◌≡◌, ◌⊎◌, inl, inr, ℕ, ◌<◌, ◌≤◌, Bool, true, false, List, [], ◌∷◌, ◌++◌, Option, Some, None, IfSome, IsSomeAnd, Result, Ok, Err, OnOk, OnErr, length, refl, ap, sym, ◌∙◌, subst, arith}
 use Rattle.std.proofs.lemmas.List.{append-nil}
-use Rattle.suite_base.specs.Outside.{Took, Wrote, WrotePart}
+use Rattle.suite_base.specs.Outside.{HasFault, IsMissing, Took, Under, Wrote, WrotePart, bytes_under}
 use Rattle.suite_base.specs.declared.reading.TheConstants.{MAX_INPUT}
 use Rattle.suite_base.specs.declared.refusals.Refusal.{Refusal}
 use Rattle.suite_base.specs.declared.refusals.Refusal.TheVariants.{TooLong, NoRegion, OutsideFirstPath}
+use Rattle.scop_core.specs.ScopData.{ScopData}
 use Rattle.scop_core.specs.Layouts.{layout}
+use Rattle.scop_reader.specs.Texts.{IsScopText, fault}
 use Rattle.clan_extract.proofs.OneLoops.{one_loop_means, one_loop_names}
 use Rattle.suite_cli.specs.declared.outcomes.Outcome.{Outcome}
 use Rattle.suite_cli.specs.declared.outcomes.Outcome.TheVariants.{Done, Refused, Usage, ReadFault, WriteFault, Memory}
-use Rattle.suite_cli.specs.Answers.{Answers, Completes, Faults, Faulty, IsComplete, ReadWhole, RefusalCause, Reported, Told, Translates, WritesPart, WritesScop, scop_of}
+use Rattle.suite_cli.specs.Answers.{Answers, CommandAnswers, Completes, IsComplete, IsLoopText, IsRefused, IsTooLong, NamedIn, ReadWhole, RefusalCause, Refuses, Reported, Takes, Told, Translates, World, Writes, WritesPart, opening_of, reading_of, scop_of, writing_of}
+use Rattle.suite_cli.specs.Commands.{Command, Clan, Scop, Words, file_of, is_input}
 use Rattle.suite_cli.specs.FirstForm.{AreWords, IsFirstForm, IsHead, IsAssignment, IsRefusal, LoopWords, content_lines, frame_of, loop_of}
 use Rattle.suite_cli.specs.Messages.{message}
+use Rattle.suite_cli.specs.Reads.{FaultCause, Faults, Faulty, Holds, IsReadFaulty, Named, Tells}
+use Rattle.suite_cli.proofs.ScopTexts.{text_has_no_fault}
+use Rattle.suite_cli.proofs.WordLists.{one_command}
 
 -- the words of a loop that was read are words that a loop can have
 words_in : (o : Option (List ℕ × List ℕ)) (l : LoopWords) → IsSomeAnd o (λ frame. IsHead frame.0 l.iterator l.start l.parameter × IsAssignment frame.1 l.array l.iterator l.value) → AreWords l
@@ -26,67 +33,87 @@ words_in (Some frame) l h = record {
 pub are_words : (bytes : List ℕ) (l : LoopWords) → IsFirstForm bytes l → AreWords l
 are_words bytes l f = words_in (frame_of (content_lines bytes)) l f.framed
 
--- the output of a translated text was written
-pub all_written : (input output : Told) (text bytes out written : List ℕ) → ReadWhole input text → bytes ≡ text → Translates bytes out → written ≡ out
-    → Wrote output.before written output.now → WritesScop input output
-all_written input output text bytes out written read e t w h =
-    let P : List ℕ → Type 0 = λ b. Translates b out in
-    let t' : Translates text out = subst P e t in
-    let Q : List ℕ → Type 0 = λ b. Wrote output.before b output.now in
-    record {
-      text = text;
-      words = t'.words;
-      reads = record { read = read; opened = t'.opened; form = t'.form };
-      wrote = subst Q (w ∙ t'.layout_is) h;
-      means = one_loop_means (loop_of t'.words);
-      names = one_loop_names (loop_of t'.words);
-    }
-
--- a part of it was written
-pub part_written : (input output : Told) (text bytes out written : List ℕ) → ReadWhole input text → bytes ≡ text → Translates bytes out → written ≡ out
-    → WrotePart output.before written output.now → WritesPart input output
-part_written input output text bytes out written read e t w h =
-    let P : List ℕ → Type 0 = λ b. Translates b out in
-    let t' : Translates text out = subst P e t in
-    let Q : List ℕ → Type 0 = λ b. WrotePart output.before b output.now in
-    record {
-      text = text;
-      words = t'.words;
-      reads = record { read = read; opened = t'.opened; form = t'.form };
-      wrote = subst Q (w ∙ t'.layout_is) h;
-    }
-
-some_case : (o : Option (List ℕ)) (P : List ℕ → Type 0) → ((bytes : List ℕ) → o ≡ Some bytes → P bytes) → IfSome o P
-some_case None P f = tt
-some_case (Some bytes) P f = f bytes refl
+-- the layout of its SCoP translates a loop
+pub translates : (text output : List ℕ) (scop : ScopData) (l : LoopWords) → IsLoopText text l → output ≡ layout scop → scop ≡ scop_of l → Translates text output
+translates text output scop l loop e s = record {
+  words = l;
+  loop = loop;
+  layout_is = e ∙ ap layout s;
+  means = one_loop_means (loop_of l);
+  names = one_loop_names (loop_of l);
+}
 
 told_by : (o : Option (List ℕ)) (P : List ℕ → Type 0) (bytes : List ℕ) → o ≡ Some bytes → IfSome o P → P bytes
 told_by o P bytes e h = let Q : Option (List ℕ) → Type 0 = λ v. IfSome v P in subst Q e h
 
--- a complete input has no refusal
-no_refusal : (input : Told) (reading writing : Faults) (words : List (List ℕ)) (bytes : List ℕ) (refusal : Refusal) → input.before ≡ Some bytes → IsComplete words bytes reading writing → ¬ RefusalCause input refusal
-no_refusal input reading writing words bytes TooLong e k h = let long : MAX_INPUT < length bytes = told_by input.before (λ b. MAX_INPUT < length b) bytes e h in let short = k.short in omega arith
-no_refusal input reading writing words bytes NoRegion e k h =
-    let same : h.0 ≡ bytes = told_by input.before (λ b. h.0 ≡ b) bytes e h.1.whole in
-    let P : List ℕ → Type 0 = λ b. IsRefusal b NoRegion in
-    let none : IsRefusal bytes NoRegion = subst P same h.2 in
-    none k.opened
-no_refusal input reading writing words bytes OutsideFirstPath e k h =
-    let same : h.0 ≡ bytes = told_by input.before (λ b. h.0 ≡ b) bytes e h.1.whole in
-    let P : List ℕ → Type 0 = λ b. IsRefusal b OutsideFirstPath in
-    let none : IsRefusal bytes OutsideFirstPath = subst P same h.2 in
-    none.1 k.loop k.form
-no_refusal input reading writing words bytes refusal e k h = absurd h.2
+-- what is said of the bytes under a name holds for those that are told
+held_by : (held : Option (List (List ℕ × List ℕ))) (P : List ℕ → Type 0) (name bytes : List ℕ) → Holds held name bytes → Under held name P → P bytes
+held_by None P name bytes e h = absurd e
+held_by (Some files) P name bytes e h = let Q : Option (List ℕ) → Type 0 = λ v. IsSomeAnd v P in subst Q e h
+
+named_by : (held : Option (List (List ℕ × List ℕ))) (left : Option (List ℕ)) (file bytes : List ℕ) (P : List ℕ → Type 0) → Tells held left file bytes → Named held left file P → P bytes
+named_by held left file bytes P (inl (i, e)) (inl (j, h)) = told_by left P bytes e h
+named_by held left file bytes P (inr (i, e)) (inr (j, h)) = held_by held P file bytes e h
+named_by held left file bytes P (inl (i, e)) (inr (j, h)) = absurd (cc)
+named_by held left file bytes P (inr (i, e)) (inl (j, h)) = absurd (cc)
+
+not_missing : (held : Option (List (List ℕ × List ℕ))) (name bytes : List ℕ) → Holds held name bytes → ¬ IsMissing held name
+not_missing None name bytes e h = absurd e
+not_missing (Some files) name bytes e h = absurd (cc)
+
+-- the fault of a file that is told was counted
+counted : (held : Option (List (List ℕ × List ℕ))) (left : Option (List ℕ)) (opening reading : Faults) (file bytes : List ℕ) → Tells held left file bytes → FaultCause held opening reading file → IsReadFaulty opening reading file
+counted held left opening reading file bytes t (inl c) = inl c
+counted held left opening reading file bytes t (inr (i, inl c)) = inr (i, c)
+counted held left opening reading file bytes (inl (j, e)) (inr (i, inr m)) = absurd (cc)
+counted held left opening reading file bytes (inr (j, e)) (inr (i, inr m)) = absurd (not_missing held file bytes e m)
+
+-- a text of a loop is not refused
+no_loop_refusal : (text : List ℕ) (l : LoopWords) (refusal : Refusal) → IsLoopText text l → ¬ IsRefusal text refusal
+no_loop_refusal text l NoRegion t h = h t.opened
+no_loop_refusal text l OutsideFirstPath t h = h.1 l t.form
+no_loop_refusal text l refusal t h = absurd h
+
+-- a text that a command takes is not refused
+not_refused : (command : Command) (text : List ℕ) (refusal : Refusal) → Takes command text → ¬ Refuses command text refusal
+not_refused (Clan file) text refusal t h = no_loop_refusal text t.0 refusal t.1 h
+not_refused (Scop file) text refusal t h = let none : fault text ≡ None = text_has_no_fault text t.0 t.1 in absurd (cc)
+
+-- a complete file has no refusal
+no_refusal : (command : Command) (before now : World) (bytes : List ℕ) (refusal : Refusal) → Tells before.held before.left (file_of command) bytes → length bytes ≤ MAX_INPUT → Takes command bytes
+    → ¬ RefusalCause command before now refusal
+no_refusal command before now bytes refusal told short taken (inl (is, h)) =
+    let long : MAX_INPUT < length bytes = named_by before.held before.left (file_of command) bytes (λ b. MAX_INPUT < length b) told h in
+    omega arith
+no_refusal command before now bytes refusal told short taken (inr h) =
+    let same : h.text ≡ bytes = named_by before.held before.left (file_of command) bytes (λ b. h.text ≡ b) told h.read.whole in
+    let P : List ℕ → Type 0 = λ b. Refuses command b refusal in
+    not_refused command bytes refusal taken (subst P same h.refused)
+
+-- what the outcome tells of a complete file
+complete_for : (command : Command) (before now : World) (outcome : Outcome) (bytes : List ℕ) → Tells before.held before.left (file_of command) bytes → length bytes ≤ MAX_INPUT → Takes command bytes
+    → ¬ IsReadFaulty (opening_of before now) (reading_of before now) (file_of command) → ¬ Faulty (writing_of before now)
+    → CommandAnswers command before now outcome → (outcome ≡ Done) ⊎ (outcome ≡ Memory)
+complete_for command before now Done bytes t s k r w h = inl refl
+complete_for command before now (Refused file refusal) bytes t s k r w h = absurd (no_refusal command before now bytes refusal t s k h.1)
+complete_for command before now Usage bytes t s k r w h = absurd h
+complete_for command before now ReadFault bytes t s k r w h = absurd (r (counted before.held before.left (opening_of before now) (reading_of before now) (file_of command) bytes t h.0))
+complete_for command before now WriteFault bytes t s k r w h = absurd (w h.0)
+complete_for command before now Memory bytes t s k r w h = inr refl
+
+complete_by : (words : List (List ℕ)) (before now : World) (outcome : Outcome) (command : Command) → Words words command → CommandAnswers command before now outcome → Completes words before now outcome
+complete_by words before now outcome command asked h k =
+    let P : Command → Type 0 = λ c. CommandAnswers c before now outcome in
+    complete_for k.command before now outcome k.bytes k.told k.short k.taken k.read k.wrote (subst P (one_command words command k.command asked k.asked) h)
 
 -- what the outcome tells is all that completeness asks
-pub complete_of : (words : List (List ℕ)) (input : Told) (reading : Faults) (output : Told) (writing : Faults) (outcome : Outcome)
-    → Answers words input reading output writing outcome → Completes words input reading writing outcome
-complete_of words input reading output writing Done h = some_case input.before _ (λ bytes e k. inl refl)
-complete_of words input reading output writing (Refused file refusal) h = some_case input.before _ (λ bytes e k. absurd (no_refusal input reading writing words bytes refusal e k h.1.1))
-complete_of words input reading output writing Usage h = some_case input.before _ (λ bytes e k. absurd (h.0 k.command))
-complete_of words input reading output writing ReadFault h = some_case input.before _ (λ bytes e k. absurd (k.read h.1.0))
-complete_of words input reading output writing WriteFault h = some_case input.before _ (λ bytes e k. absurd (k.written h.1.0))
-complete_of words input reading output writing Memory h = some_case input.before _ (λ bytes e k. inr refl)
+pub complete_of : (words : List (List ℕ)) (before now : World) (outcome : Outcome) → Answers words before now outcome → Completes words before now outcome
+complete_of words before now Done h = complete_by words before now Done h.0 h.1 h.2
+complete_of words before now (Refused file refusal) h = complete_by words before now (Refused file refusal) h.0 h.1 h.2
+complete_of words before now Usage h = λ k. absurd (h.0 k.command k.asked)
+complete_of words before now ReadFault h = complete_by words before now ReadFault h.0 h.1 h.2
+complete_of words before now WriteFault h = complete_by words before now WriteFault h.0 h.1 h.2
+complete_of words before now Memory h = complete_by words before now Memory h.0 h.1 h.2
 
 nothing_wrote : (a c : Option (List ℕ)) → Wrote a [] c → c ≡ a
 nothing_wrote None c h = h

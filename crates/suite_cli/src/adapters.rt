@@ -1,9 +1,13 @@
-//! Standard streams as a source and as sinks: the trusted edge, which tells no bytes.
+//! Standard streams as a source and as sinks, and the system's files: the trusted edge, which tells no
+//! bytes.
 
-ghost use Rattle.std.specs.Prelude.{◌≡◌, ℕ, None};
+ghost use Rattle.std.specs.Prelude.{◌≡◌, ℕ, None, false};
+ghost use Rattle.std.specs.Option.{is_some};
 
+use std::fs;
 use std::io::{Read, Write};
-use suite_base::{Failed, Sink, Source};
+use std::rt::Files as FileSystem;
+use suite_base::{Failed, Files, Sink, Source};
 
 /// A reader as a source. It counts each error as a fault, and tells no bytes.
 #[derive(Drop)]
@@ -67,5 +71,69 @@ impl<W: Write + Drop> Sink for RealOutput<W> {
                 Err(Failed)
             }
         }
+    }
+}
+
+/// The files of a system, of which one at a time is open. It counts each error as a fault, and tells no
+/// bytes and no files. A file is closed where it is let go.
+#[derive(Drop)]
+pub struct RealFiles<'a, R: FileSystem> {
+    system: &'a R,
+    opened: Option<R::File>,
+    faults: u64,
+}
+
+impl<'a, R: FileSystem> RealFiles<'a, R> {
+    /// The files of this system, without faults so far, none of them open.
+    pub fn new(system: &'a R) -> RealFiles<'a, R>
+        ensures fresh { ⟦<RealFiles<'a, R> as Files>⟧.faults result ≡ 0 }
+        ensures closed { ⟦<RealFiles<'a, R> as Files>⟧.is_open result ≡ false }
+    {
+        RealFiles {
+            system,
+            opened: None,
+            faults: 0,
+        }
+    }
+}
+
+impl<'a, R: FileSystem> Files for RealFiles<'a, R> {
+    ghost held = { λ _. None };
+
+    ghost left = { λ _. None };
+
+    ghost is_open = { λ s. is_some s.opened };
+
+    ghost faults = { λ s. s.faults };
+
+    fn open(&mut self, name: &str) -> Result<(), Failed> {
+        self.opened = None;
+        match fs::open(self.system, name) {
+            Ok(file) => {
+                self.opened = Some(file);
+                Ok(())
+            }
+            Err(_) => {
+                self.faults = self.faults.saturating_add(1);
+                Err(Failed)
+            }
+        }
+    }
+
+    fn read(&mut self, buf: &mut [u8]) -> Result<usize, Failed> {
+        match &mut self.opened {
+            Some(file) => match file.read(buf) {
+                Ok(n) => Ok(n),
+                Err(_) => {
+                    self.faults = self.faults.saturating_add(1);
+                    Err(Failed)
+                }
+            },
+            None => unreachable!(),
+        }
+    }
+
+    fn close(&mut self) {
+        self.opened = None;
     }
 }

@@ -1,8 +1,9 @@
 //! What the program's words ask for.
 
-ghost use Rattle.std.specs.Prelude.{◌≡◌, ◌↔◌, Some, IsTrue, MatchOption, slice_get};
+ghost use Rattle.std.specs.Prelude.{◌≡◌, ◌≢◌, ◌∷◌, [], true, length, MatchOption};
 ghost use Rattle.suite_cli.specs.Commands as spec;
 
+use crate::file_words::is_file_word;
 use suite_base::WordList;
 
 /// The work that the words ask for. A file is named by its word; `-` is standard input.
@@ -10,39 +11,64 @@ use suite_base::WordList;
 pub enum Work<'a> {
     /// Translates the C region of a file.
     Clan(&'a str),
+    /// Prints the SCoP of a file.
+    Scop(&'a str),
 }
 
-/// The work that these words ask for; `None` exactly where they are not `clan` and `-`. No memory is
-/// taken.
-pub fn read_words(words: &WordList) -> Option<Work<'_>>
-    ensures { MatchOption result (¬ spec.IsClan words.now) (λ work. spec.Words words.now work) }
-{
-    if is_clan(words) {
-        Some(Work::Clan("-"))
-    } else {
-        None
+impl<'a> Work<'a> {
+    /// The word of the file that is read.
+    pub fn file(&self) -> &'a str
+        ensures { result.now ≡ spec.file_of (spec.command_of self.now) }
+    {
+        match self {
+            Work::Clan(file) => file,
+            Work::Scop(file) => file,
+        }
     }
 }
 
-/// Whether the words are `clan` and `-`.
-fn is_clan(words: &WordList) -> bool
-    ensures { IsTrue result ↔ spec.IsClan words.now }
+/// The work that these words ask for; `None` exactly where they ask for none. No memory is taken.
+pub fn read_words(words: &WordList) -> Option<Work<'_>>
+    ensures { MatchOption result (spec.IsNoCommand words.now) (λ work. spec.Words words.now (spec.command_of work)) }
+{
+    match two_words(words) {
+        None => None,
+        Some((command, file)) => {
+            if is_file_word(file) {
+                named_work(command, file)
+            } else {
+                None
+            }
+        }
+    }
+}
+
+/// The words, where they are two.
+fn two_words(words: &WordList) -> Option<(&str, &str)>
+    ensures { MatchOption result (length words.now ≢ 2) (λ two. words.now ≡ two.0.now ∷ (two.1.now ∷ [])) }
 {
     if words.len() != 2 {
-        return false;
+        return None;
     }
-    if !has_word(words, 0, "clan") {
-        return false;
+    match words.word(0) {
+        None => None,
+        Some(command) => match words.word(1) {
+            None => None,
+            Some(file) => Some((command, file)),
+        },
     }
-    has_word(words, 1, "-")
 }
 
-/// Whether the word at place `k` is `wanted`.
-fn has_word(words: &WordList, k: usize, wanted: &str) -> bool
-    ensures { IsTrue result ↔ (slice_get words.now k ≡ Some wanted.now) }
+/// The work of this command on this file; `None` exactly where it is no command.
+fn named_work<'a>(command: &str, file: &'a str) -> Option<Work<'a>>
+    requires { spec.is_file_word file.now ≡ true }
+    ensures { MatchOption result (spec.IsNoCommand (command.now ∷ (file.now ∷ []))) (λ work. spec.Words (command.now ∷ (file.now ∷ [])) (spec.command_of work)) }
 {
-    match words.word(k) {
-        Some(word) => word == wanted,
-        None => false,
+    if command == "clan" {
+        Some(Work::Clan(file))
+    } else if command == "scop" {
+        Some(Work::Scop(file))
+    } else {
+        None
     }
 }

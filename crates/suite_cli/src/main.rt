@@ -2,31 +2,38 @@
 //! with the status of its outcome.
 #![tactic(auto)]
 
+#[cfg(test)]
+mod adapter_tests;
 mod adapters;
 mod commands;
+mod file_words;
 mod first_form;
 mod messages;
 mod names;
 mod outcomes;
 mod runs;
 #[cfg(test)]
+mod scop_tests;
+#[cfg(test)]
+mod test_runs;
+#[cfg(test)]
 mod tests;
 mod top;
 mod translations;
 
-use adapters::{RealInput, RealOutput};
+use adapters::{RealFiles, RealInput, RealOutput};
 use outcomes::{Outcome, status};
 use std::env;
 use std::io::ErrorKind;
 use std::process::ExitCode;
-use suite_base::{List, NoMemory, SureFiles, WordList};
+use suite_base::{NoMemory, WordList};
 use top::suite;
 
 fn main(rt: HostRuntime) -> ExitCode {
     let outcome = match program_words(&rt) {
         Err(NoMemory) => Outcome::Memory,
         Ok(words) => {
-            let mut files = SureFiles::new(List::new(rt.alloc()));
+            let mut files = RealFiles::new(&rt);
             let mut input = RealInput::new(rt.stdin());
             let mut out = RealOutput::new(rt.stdout());
             let mut err = RealOutput::new(rt.stderr());

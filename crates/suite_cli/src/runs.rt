@@ -1,46 +1,63 @@
 //! The run of one command, without its message.
 
-ghost use Rattle.std.specs.Prelude.{◌≡◌, ◌⊎◌, ◌≤◌, OnOk, OnErr, IfOk, IfErr, List, ℕ};
-ghost use Rattle.scop_core.specs.Layouts.{layout};
-ghost use Rattle.suite_base.specs.Outside.{HasFault, Wrote, WrotePart};
+ghost use Rattle.std.specs.Prelude.{◌≡◌, ◌≤◌, IfOk, IfErr, length, true, false, Some};
+ghost use Rattle.scop_reader.specs.Texts.{fault};
+ghost use Rattle.suite_cli.specs.FirstForm.{IsRefusal};
 ghost use Rattle.suite_cli.specs.Answers as spec;
-ghost use Rattle.suite_cli.specs.FirstForm as form;
+ghost use Rattle.suite_cli.specs.Commands as command;
 
 use crate::commands::{Work, read_words};
+use crate::file_words::read_named;
 use crate::first_form::read_first_form;
 use crate::outcomes::Outcome;
 use crate::translations::translation;
+use scop_reader::read_scop;
 use scop_writer::print_scop;
 use std::alloc::Global;
-use suite_base::{Fail, ReadFail, Refusal, Sink, Source, Text, WordList, read_all, write_all};
+use suite_base::{
+    Fail, Files, MAX_INPUT, ReadFail, Refusal, Sink, Source, Text, WordList, write_all,
+};
 
-/// Does the work that the words ask for: reads the input, builds the whole output, and writes it.
-pub fn run<I: Source, O: Sink>(
+/// Does the work that the words ask for: reads its file, builds the whole output, and writes it.
+pub fn run<F: Files, I: Source, O: Sink>(
     alloc: Global,
     words: &WordList,
+    files: &mut F,
     input: &mut I,
     out: &mut O,
 ) -> Outcome
-    ensures { spec.Answers words.now (record { before = I.left input.old; now = I.left input.new }) (record { before = I.faults input.old; now = I.faults input.new }) (record { before = O.written out.old; now = O.written out.new }) (record { before = O.faults out.old; now = O.faults out.new }) result }
+    ensures answers { spec.Answers words.now (record { held = F.held files.old; opening = F.faults files.old; left = I.left input.old; reading = I.faults input.old; written = O.written out.old; writing = O.faults out.old }) (record { held = F.held files.new; opening = F.faults files.new; left = I.left input.new; reading = I.faults input.new; written = O.written out.new; writing = O.faults out.new }) result }
+    ensures untouched { command.NameNoFile words.now → files.new ≡ files.old }
+    ensures unread { command.NameNoInput words.now → I.left input.new ≡ I.left input.old }
+    ensures held { F.held files.new ≡ F.held files.old }
 {
     match read_words(words) {
         None => Outcome::Usage,
-        Some(Work::Clan(_)) => clan(alloc, input, out),
+        Some(work) => run_work(alloc, &work, files, input, out),
     }
 }
 
-/// Translates the region of standard input.
-fn clan<I: Source, O: Sink>(alloc: Global, input: &mut I, out: &mut O) -> Outcome
-    ensures { spec.ClanAnswers (record { before = I.left input.old; now = I.left input.new }) (record { before = I.faults input.old; now = I.faults input.new }) (record { before = O.written out.old; now = O.written out.new }) (record { before = O.faults out.old; now = O.faults out.new }) result }
+/// Does this work.
+fn run_work<F: Files, I: Source, O: Sink>(
+    alloc: Global,
+    work: &Work<'_>,
+    files: &mut F,
+    input: &mut I,
+    out: &mut O,
+) -> Outcome
+    ensures answers { spec.CommandAnswers (command.command_of work.now) (record { held = F.held files.old; opening = F.faults files.old; left = I.left input.old; reading = I.faults input.old; written = O.written out.old; writing = O.faults out.old }) (record { held = F.held files.new; opening = F.faults files.new; left = I.left input.new; reading = I.faults input.new; written = O.written out.new; writing = O.faults out.new }) result }
+    ensures untouched { command.is_input (command.file_of (command.command_of work.now)) ≡ true → files.new ≡ files.old }
+    ensures unread { command.is_input (command.file_of (command.command_of work.now)) ≡ false → I.left input.new ≡ I.left input.old }
+    ensures held { F.held files.new ≡ F.held files.old }
 {
-    match read_all(alloc, input) {
+    match read_named(alloc, work.file(), files, input) {
         Err(ReadFail::Memory) => Outcome::Memory,
         Err(ReadFail::Fault) => Outcome::ReadFault,
         Err(ReadFail::TooLong) => Outcome::Refused {
             file: 1,
             refusal: Refusal::TooLong,
         },
-        Ok(text) => match clan_text(alloc, text.bytes()) {
+        Ok(text) => match output_of(alloc, work, text.bytes()) {
             Err(Fail::Memory) => Outcome::Memory,
             Err(Fail::Refused(refusal)) => Outcome::Refused { file: 1, refusal },
             Ok(output) => match write_all(out, output.bytes()) {
@@ -51,10 +68,22 @@ fn clan<I: Source, O: Sink>(alloc: Global, input: &mut I, out: &mut O) -> Outcom
     }
 }
 
+/// The output that the work makes of a text.
+fn output_of(alloc: Global, work: &Work<'_>, bytes: &[u8]) -> Result<Text, Fail>
+    requires short { length bytes.now ≤ MAX_INPUT }
+    ensures ok { IfOk result (λ output. spec.Makes (command.command_of work.now) bytes.now output) }
+    ensures err { IfErr result (λ fail. spec.FailCause (spec.Refuses (command.command_of work.now) bytes.now) fail) }
+{
+    match work {
+        Work::Clan(_) => translated(alloc, bytes),
+        Work::Scop(_) => printed(alloc, bytes),
+    }
+}
+
 /// The SCoP of a text's region, as it is printed.
-fn clan_text(alloc: Global, bytes: &[u8]) -> Result<Text, Fail>
+fn translated(alloc: Global, bytes: &[u8]) -> Result<Text, Fail>
     ensures ok { IfOk result (λ output. spec.Translates bytes.now output) }
-    ensures err { IfErr result (λ fail. spec.FailCause bytes.now fail) }
+    ensures err { IfErr result (λ fail. spec.FailCause (IsRefusal bytes.now) fail) }
 {
     match read_first_form(bytes) {
         Err(refusal) => Err(Fail::Refused(refusal)),
@@ -64,6 +93,22 @@ fn clan_text(alloc: Global, bytes: &[u8]) -> Result<Text, Fail>
                 Err(_) => Err(Fail::Memory),
                 Ok(output) => Ok(output),
             },
+        },
+    }
+}
+
+/// The SCoP of a text, as it is printed.
+fn printed(alloc: Global, bytes: &[u8]) -> Result<Text, Fail>
+    requires short { length bytes.now ≤ MAX_INPUT }
+    ensures ok { IfOk result (λ output. spec.Prints bytes.now output) }
+    ensures err { IfErr result (λ fail. spec.FailCause (λ refusal. fault bytes.now ≡ Some refusal) fail) }
+{
+    match read_scop(alloc, bytes) {
+        Err(Fail::Memory) => Err(Fail::Memory),
+        Err(Fail::Refused(refusal)) => Err(Fail::Refused(refusal)),
+        Ok(scop) => match print_scop(alloc, &scop) {
+            Err(_) => Err(Fail::Memory),
+            Ok(output) => Ok(output),
         },
     }
 }

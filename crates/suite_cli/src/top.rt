@@ -2,6 +2,7 @@
 
 ghost use Rattle.std.specs.Prelude.{◌≡◌, ℕ, List};
 ghost use Rattle.suite_cli.specs.Answers as spec;
+ghost use Rattle.suite_cli.specs.Commands as command;
 
 use crate::messages::report;
 use crate::outcomes::Outcome;
@@ -9,12 +10,14 @@ use crate::runs::run;
 use std::alloc::Global;
 use suite_base::{Files, Sink, Source, WordList};
 
-/// Runs the suite on the program's words: reads what they name, does the work, writes the output to
-/// `out`, and for each outcome but `Done` one line to `err`. `files` is not used yet.
+/// Runs the suite on the program's words: reads the file that they name, does the work, writes the
+/// output to `out`, and for each outcome but `Done` one line to `err`.
 ///
-/// At `Done` the input was the text of one loop, the layout of a SCoP was appended to `out`, and for
-/// every value of the parameter that SCoP has a run whose final memory is the memory after the C
-/// region. What every other outcome tells is said by `Answers`; want of memory is the one free answer.
+/// At `Done` under `clan` the file was the text of one loop, the layout of a SCoP was appended to
+/// `out`, and for every value of the parameter that SCoP has a run whose final memory is the memory
+/// after the C region; under `scop` the file was a text of a SCoP, and its layout was appended. What
+/// every other outcome tells is said by `Answers`; want of memory is the one free answer. `files` is as
+/// before where no file is named but standard input, and what it holds always is.
 pub fn suite<F: Files, I: Source, O: Sink, E: Sink>(
     alloc: Global,
     words: &WordList,
@@ -23,13 +26,14 @@ pub fn suite<F: Files, I: Source, O: Sink, E: Sink>(
     out: &mut O,
     err: &mut E,
 ) -> Outcome
-    ensures answers { spec.Answers words.now (record { before = I.left input.old; now = I.left input.new }) (record { before = I.faults input.old; now = I.faults input.new }) (record { before = O.written out.old; now = O.written out.new }) (record { before = O.faults out.old; now = O.faults out.new }) result }
-    ensures completes { spec.Completes words.now (record { before = I.left input.old; now = I.left input.new }) (record { before = I.faults input.old; now = I.faults input.new }) (record { before = O.faults out.old; now = O.faults out.new }) result }
+    ensures answers { spec.Answers words.now (record { held = F.held files.old; opening = F.faults files.old; left = I.left input.old; reading = I.faults input.old; written = O.written out.old; writing = O.faults out.old }) (record { held = F.held files.new; opening = F.faults files.new; left = I.left input.new; reading = I.faults input.new; written = O.written out.new; writing = O.faults out.new }) result }
+    ensures completes { spec.Completes words.now (record { held = F.held files.old; opening = F.faults files.old; left = I.left input.old; reading = I.faults input.old; written = O.written out.old; writing = O.faults out.old }) (record { held = F.held files.new; opening = F.faults files.new; left = I.left input.new; reading = I.faults input.new; written = O.written out.new; writing = O.faults out.new }) result }
     ensures reported { spec.Reported (record { before = E.written err.old; now = E.written err.new }) (record { before = E.faults err.old; now = E.faults err.new }) result }
-    ensures untouched { files.new ≡ files.old }
+    ensures untouched { command.NameNoFile words.now → files.new ≡ files.old }
+    ensures unread { command.NameNoInput words.now → I.left input.new ≡ I.left input.old }
+    ensures held { F.held files.new ≡ F.held files.old }
 {
-    let _unused = files;
-    let outcome = run(alloc, words, input, out);
+    let outcome = run(alloc, words, files, input, out);
     let _unreported = report(&outcome, err);
     outcome
 }

@@ -2,7 +2,7 @@ use Rattle.std.proofs.Common.{rules, arith, ap}
 use Rattle.std.proofs.lemmas.Grind.{common_steps}
 use Rattle.c_parser.specs.Input.{Parser}
 use Rattle.c_parser.specs.declared.tree.Node.{Node}
-use Rattle.c_parser.specs.Statements.{block_nodes, block_from, inner, body, statement}
+use Rattle.c_parser.specs.Statements.{block_nodes, block_from, inner}
 use Rattle.c_parser.proofs.Turns.{one_more, no_more}
 use Rattle.c_parser.proofs.StatementLemmas.{statement_is, inner_is, body_is}
 use Rattle.c_parser.proofs.statements.+statements.Goals as goal

@@ -1,6 +1,6 @@
 use Rattle.std.proofs.Common.{rules, arith}
 use Rattle.std.proofs.lemmas.Grind.{common_steps}
-use Rattle.c_parser.specs.Statements.{region, region_from, statement}
+use Rattle.c_parser.specs.Statements.{region, region_from}
 use Rattle.c_parser.proofs.Turns.{one_more, no_more}
 use Rattle.c_parser.proofs.statements.region.Goals as goal
 

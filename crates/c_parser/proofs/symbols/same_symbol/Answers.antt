@@ -1,6 +1,4 @@
-use Rattle.std.proofs.Common.{rules, sym, ◌∙◌}
-use denote.Enum.Bare.{same_true}
-use Rattle.c_parser.specs.contracts.symbols.Symbol.{the_type}
+use Rattle.std.proofs.Common.{rules}
 use Rattle.c_parser.specs.Symbols.{same_symbol}
 use Rattle.c_parser.proofs.symbols.same_symbol.Goals as goal
 

@@ -1,4 +1,4 @@
-use Rattle.std.proofs.Common.{◌≡◌, ◌-◌, ◌∙◌, length, ap, sym}
+use Rattle.std.proofs.Common.{◌-◌, ◌∙◌, length, ap, sym}
 use Rattle.c_lexer.specs.Places.{place_at}
 use Rattle.c_lexer.specs.Readings.{Reading}
 use Rattle.c_parser.specs.Symbols.{symbol_of}

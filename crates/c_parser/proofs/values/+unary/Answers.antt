@@ -1,5 +1,5 @@
-use Rattle.std.proofs.Common.{arith, ap, ◌∙◌}
-use Rattle.c_parser.specs.Values.{below, unary, unary_sign}
+use Rattle.std.proofs.Common.{ap, ◌∙◌}
+use Rattle.c_parser.specs.Values.{unary_sign}
 use Rattle.c_parser.proofs.ValueLemmas.{unary_goes}
 use Rattle.c_parser.proofs.values.+unary.Goals as goal
 

@@ -1,5 +1,4 @@
-use Rattle.std.proofs.Common.{◌≡◌, ◌-◌, []}
-use Rattle.c_parser.specs.declared.symbols.Symbol.TheVariants as s
+use Rattle.std.proofs.Common.{◌≡◌, ◌-◌}
 use Rattle.c_parser.specs.Values.{compare_rest, signed_from, rel_sign, sum, below}
 use Rattle.c_parser.proofs.values.Grammar.compare_rest.Given as goal
 

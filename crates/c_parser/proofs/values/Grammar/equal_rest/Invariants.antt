@@ -1,5 +1,4 @@
-use Rattle.std.proofs.Common.{◌≡◌, ◌-◌, []}
-use Rattle.c_parser.specs.declared.symbols.Symbol.TheVariants as s
+use Rattle.std.proofs.Common.{◌≡◌, ◌-◌}
 use Rattle.c_parser.specs.Values.{equal_rest, signed_from, equal_sign, compare, below}
 use Rattle.c_parser.proofs.values.Grammar.equal_rest.Given as goal
 

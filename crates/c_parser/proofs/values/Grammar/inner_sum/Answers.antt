@@ -1,5 +1,5 @@
 use Rattle.std.proofs.Common.{arith}
-use Rattle.c_parser.specs.Values.{below, sum}
+use Rattle.c_parser.specs.Values.{below}
 use Rattle.c_parser.proofs.Turns.{deeper}
 use Rattle.c_parser.proofs.values.Grammar.inner_sum.Goals as goal
 

@@ -1,5 +1,4 @@
 use Rattle.std.proofs.Common.{◌≡◌, ◌-◌, []}
-use Rattle.c_parser.specs.declared.symbols.Symbol.TheVariants as s
 use Rattle.c_parser.specs.Values.{product_rest, signed_from, product_sign, unary, below}
 use Rattle.c_parser.proofs.values.Grammar.product_rest.Given as goal
 

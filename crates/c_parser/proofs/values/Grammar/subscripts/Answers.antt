@@ -1,7 +1,6 @@
-use Rattle.std.proofs.Common.{rules, arith, ◌≡◌, ◌-◌, []}
+use Rattle.std.proofs.Common.{rules, arith}
 use Rattle.std.proofs.lemmas.Grind.{common_steps}
-use Rattle.c_parser.specs.declared.symbols.Symbol.TheVariants as s
-use Rattle.c_parser.specs.Values.{subscripts, subscripts_from, subscript, below}
+use Rattle.c_parser.specs.Values.{subscripts, subscripts_from, below}
 use Rattle.c_parser.proofs.Turns.{one_more, no_more}
 use Rattle.c_parser.proofs.values.Grammar.subscripts.Goals as goal
 

@@ -1,6 +1,5 @@
-use Rattle.std.proofs.Common.{◌≡◌, ◌-◌, []}
-use Rattle.c_parser.specs.declared.symbols.Symbol.TheVariants as s
-use Rattle.c_parser.specs.Values.{subscripts, subscripts_from, subscript, below}
+use Rattle.std.proofs.Common.{◌≡◌, ◌-◌}
+use Rattle.c_parser.specs.Values.{subscripts, subscripts_from, below}
 use Rattle.c_parser.proofs.values.Grammar.subscripts.Given as goal
 
 abbrev pub invariant-loop-turn : goal.invariant-loop-turn

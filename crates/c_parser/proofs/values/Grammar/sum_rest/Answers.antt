@@ -1,6 +1,5 @@
-use Rattle.std.proofs.Common.{rules, arith, ◌≡◌, ◌-◌, []}
+use Rattle.std.proofs.Common.{rules, arith}
 use Rattle.std.proofs.lemmas.Grind.{common_steps}
-use Rattle.c_parser.specs.declared.symbols.Symbol.TheVariants as s
 use Rattle.c_parser.specs.Values.{sum_rest, signed_from, sum_sign, product, below}
 use Rattle.c_parser.proofs.Turns.{one_more, no_more}
 use Rattle.c_parser.proofs.values.Grammar.sum_rest.Goals as goal

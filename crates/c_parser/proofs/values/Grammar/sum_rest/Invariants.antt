@@ -1,5 +1,4 @@
-use Rattle.std.proofs.Common.{◌≡◌, ◌-◌, []}
-use Rattle.c_parser.specs.declared.symbols.Symbol.TheVariants as s
+use Rattle.std.proofs.Common.{◌≡◌, ◌-◌}
 use Rattle.c_parser.specs.Values.{sum_rest, signed_from, sum_sign, product, below}
 use Rattle.c_parser.proofs.values.Grammar.sum_rest.Given as goal
 

@@ -1,0 +1,5 @@
+use Rattle.scop_reader.proofs.GrammarLayout.{layout_reads_back_law}
+use Rattle.scop_reader.proofs.laws.layout_reads_back.Goals as goal
+
+pub returns : goal.returns
+returns c = layout_reads_back_law

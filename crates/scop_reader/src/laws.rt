@@ -1,0 +1,26 @@
+//! The laws of OpenScop text, for every text: functions that do nothing, and whose contracts are the
+//! laws.
+
+ghost use Rattle.scop_reader.specs.Texts.{LayoutReadsBack, ReadsExactly, StandsForOne, TextsReadBack};
+
+/// A text is read, as its pieces, exactly where its lines say a document of these pieces, whose pieces
+/// can be printed and pass no limit, and no second SCoP follows.
+pub fn reads_exactly()
+    ensures { ReadsExactly }
+{}
+
+/// A text stands for at most one SCoP.
+pub fn stands_for_one()
+    ensures { StandsForOne }
+{}
+
+/// What is printed of a valid SCoP, whose parts are well-formed and whose numbers are in range, is a text
+/// of that SCoP, which is read as it.
+pub fn layout_reads_back()
+    ensures { LayoutReadsBack }
+{}
+
+/// What is printed of a SCoP that was read from a text is a text of that SCoP.
+pub fn texts_read_back()
+    ensures { TextsReadBack }
+{}
