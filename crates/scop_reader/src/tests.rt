@@ -145,8 +145,8 @@ fn loop_refusal(alloc: Global, n: usize, new_line: &[u8]) -> Result<Option<Refus
 }
 
 /// The refusal of the scalar statement with line `n` changed.
-fn scalar_refusal(alloc: Global, n: usize, new_line: &Text) -> Result<Option<Refusal>, NoMemory> {
-    let text = line_changed(alloc, &SCALAR, n, new_line.bytes())?;
+fn scalar_refusal(alloc: Global, n: usize, new_line: &[u8]) -> Result<Option<Refusal>, NoMemory> {
+    let text = line_changed(alloc, &SCALAR, n, new_line)?;
     refusal(alloc, &text)
 }
 
@@ -285,6 +285,12 @@ fn other_refusals(rt: HostRuntime) -> Result<(), Fail> {
     for (n, new_line, refusal) in cases {
         assert_eq!(rt; loop_refusal(rt.alloc(), n, new_line)?, refusal);
     }
+    assert_eq!(rt; scalar_refusal(rt.alloc(), 0, b"")?, None);
+    let clash = b"2\n2\nDOMAIN\n0 2 0 0 0 0\nSCATTERING\n1 3 1 0 0 0\n0 -1 0\n0";
+    assert_eq!(rt;
+        scalar_refusal(rt.alloc(), 6, clash)?,
+        Some(Refusal::BetaClash(1, 2))
+    );
     for n in 0..ONE_LOOP.len() {
         let text = cut(rt.alloc(), &ONE_LOOP, n)?;
         assert_eq!(rt;
