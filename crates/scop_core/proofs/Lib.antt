@@ -12,6 +12,7 @@ pub mod SolvedDots
 pub mod SolvedRowMeanings
 pub mod SolvedMeanings
 pub mod Assemblies
+pub mod HeldPieces
 pub mod Validities
 pub mod Arrays
 pub mod ClashFree

@@ -46,6 +46,7 @@ with_assembled scop e k a = record {
   pieces = pieces_with a.pieces e;
   printable = with_printable a.pieces e k a.printable;
   accepted = a.accepted;
+  held = record { context = a.held.context; statements = a.held.statements; arrays = a.held.arrays };
   is_theirs = ap (λ s. extended s e) a.is_theirs;
 }
 

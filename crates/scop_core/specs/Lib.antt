@@ -1,4 +1,5 @@
 pub mod Assembly
+pub mod Held
 pub mod KeptLimits
 pub mod Layouts
 pub mod Meaning

@@ -5,6 +5,7 @@ use Rattle.scop_core.specs.declared.raw_pieces.ScopPieces.{ScopPieces}
 use Rattle.scop_core.specs.SolvedRows.{HasRelation, HasAccessRelation}
 use Rattle.scop_core.specs.ScopData.{ScopData}
 use Rattle.scop_core.specs.Assembly.{refusal_of, scop_of}
+use Rattle.scop_core.specs.Held.{IsHeld}
 use Rattle.scop_core.specs.Printable.{IsPrintable}
 
 -- the schedule and the accesses of a statement can be printed
@@ -12,11 +13,12 @@ pub record HasRelations (parameters : ℕ) (statement : Statement) : Type 0 wher
   pub schedule : HasRelation (length statement.body.iterators) parameters statement.schedule
   pub accesses : All (HasAccessRelation (length statement.body.iterators) parameters) statement.accesses
 
--- the SCoP of printable pieces that have no refusal
+-- the SCoP of printable pieces that have no refusal, and are such as types hold
 pub record IsAssembled (scop : ScopData) : Type 0 where
   pub pieces : ScopPieces
   pub printable : IsPrintable pieces
   pub accepted : refusal_of pieces ≡ None
+  pub held : IsHeld pieces
   pub is_theirs : scop ≡ scop_of pieces
 
 -- a SCoP that every call takes

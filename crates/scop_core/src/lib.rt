@@ -8,6 +8,7 @@ mod array_tables;
 mod assembling;
 mod clashes;
 mod copies;
+mod held;
 pub mod laws;
 mod limits;
 mod origins;

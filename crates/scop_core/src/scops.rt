@@ -15,6 +15,7 @@ use crate::copies::{
     beta_vectors, copied_extensions, copied_names, copied_part, copied_statements, copied_text,
     extensions_with,
 };
+use crate::held::pieces_are_held;
 use crate::limits::{pieces_limit, statements_limit};
 use crate::raw_pieces::ScopPieces;
 use crate::statements::{Extension, Statement};
@@ -87,6 +88,7 @@ impl Scop {
         ensures scop { IfOk result (λ scop. scop ≡ scop_of pieces) }
         ensures cause { IfErr result (HasCause (refusal_of pieces)) }
     {
+        pieces_are_held(&pieces);
         match early_refusal(alloc, &pieces) {
             Err(NoMemory) => return Err(Fail::Memory),
             Ok(Some(refusal)) => return Err(Fail::Refused(refusal)),

@@ -20,7 +20,7 @@ use Rattle.scop_core.specs.SolvedForm.{local_column, affine_of, first_row, outpu
 use Rattle.scop_core.proofs.ReadBackLists.{length_unit, length_raised}
 use Rattle.scop_core.proofs.ReadBackRows.{Fits, first}
 use Rattle.scop_core.proofs.SolvedPieces.{solved_is_solved, access_is_solved}
-use Rattle.scop_reader.specs.Texts.{IsFormed}
+use Rattle.scop_core.specs.Held.{IsFormed}
 use Rattle.scop_reader.proofs.GrammarPrinted.{AreSmall}
 
 -- ---- lists of coefficients

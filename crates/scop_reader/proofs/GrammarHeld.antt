@@ -19,7 +19,7 @@ use Rattle.scop_core.specs.ReadBack.{access_piece, statement_pieces as printed_s
 use Rattle.scop_core.specs.Validity.{HasRelations, IsValid}
 use Rattle.scop_core.proofs.ReadBackNames.{default_count}
 use Rattle.scop_core.proofs.SolvedPieces.{solved_is_solved, access_is_solved}
-use Rattle.scop_reader.specs.Texts.{IsFormed, StatementIsHeld, IsHeld}
+use Rattle.scop_core.specs.Held.{IsFormed, StatementIsHeld, IsHeld}
 use Rattle.scop_reader.proofs.GrammarProper.{no_first}
 use Rattle.scop_reader.proofs.GrammarFormed.{scattering_formed, access_part_formed}
 
@@ -141,7 +141,7 @@ scop_held pieces printable accepted held =
     record {
       valid = record {
         statements = All-from_recursion (HasRelations p) (solved_statements 1 pieces.statements) all.relations;
-        assembled = record { pieces = pieces; printable = printable; accepted = accepted; is_theirs = refl };
+        assembled = record { pieces = pieces; printable = printable; accepted = accepted; held = held; is_theirs = refl };
       };
       held = record {
         context = held.context;

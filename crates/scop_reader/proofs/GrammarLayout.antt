@@ -14,13 +14,16 @@ use Rattle.scop_core.specs.declared.raw_pieces.RawStatement.{RawStatement}
 use Rattle.scop_core.specs.declared.raw_pieces.ScopPieces.{ScopPieces}
 use Rattle.scop_core.specs.Assembly.{or_else, whole_limit, first_limit, first_unsolved, early_refusal_of, first_clash, solved_statements, refusal_of}
 use Rattle.scop_core.specs.Layouts.{layout}
+use Rattle.scop_core.specs.ScopData.{ScopData}
+use Rattle.scop_core.specs.Validity.{IsValid}
 use Rattle.scop_core.specs.Printable.{has_part, IsPrintable, IsPrintableStatement}
 use Rattle.scop_core.specs.ReadBack.{pieces_of as printed_pieces, ReadBack}
 use Rattle.scop_core.proofs.ReadBackPieces.{pieces_read_back}
 use Rattle.scop_reader.specs.Lines.{Rest}
 use Rattle.scop_reader.specs.Rules.{from_open, no_second}
 use Rattle.scop_reader.specs.Documents.{Parts, Document, said_document, pieces_of, behind_all}
-use Rattle.scop_reader.specs.Texts.{IsFormed, are_wide, parts_are_wide, is_relation, are_relations, has_no_special, has_one_special, is_statement, are_statements, IsDocument, IsTextOf, StatementIsHeld, IsHeld, LayoutReadsBack}
+use Rattle.scop_core.specs.Held.{IsFormed, StatementIsHeld, IsHeld}
+use Rattle.scop_reader.specs.Texts.{IsScopText, are_wide, parts_are_wide, is_relation, are_relations, has_no_special, has_one_special, is_statement, are_statements, IsDocument, IsTextOf}
 use Rattle.scop_reader.proofs.GrammarPrinted.{printed, printed_text, printed_lines, printed_says}
 use Rattle.scop_reader.proofs.GrammarSpelled.{parts_of, access_text, keep, items_of, statement_text, document_of, pieces_are, layout_spelled}
 use Rattle.scop_reader.proofs.GrammarGood.{AllGood, document_good}
@@ -120,8 +123,9 @@ printed_is_text bytes d e good =
       one = nothing_follows says.0 says.2;
     }
 
-pub layout_reads_back_law : LayoutReadsBack
-layout_reads_back_law scop valid held =
+-- what is printed of a valid SCoP, such as types hold, is a text of it
+pub layout_read : (scop : ScopData) → IsValid scop → IsHeld (printed_pieces scop) → IsScopText (layout scop) scop
+layout_read scop valid held =
     let p : ScopPieces = printed_pieces scop in
     let a = valid.assembled in
     let back : ReadBack scop = pieces_read_back a.pieces scop a.printable a.accepted a.is_theirs valid in

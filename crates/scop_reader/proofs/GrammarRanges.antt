@@ -24,7 +24,8 @@ use Rattle.scop_reader.specs.declared.roles.Role.TheVariants.{Context, Domain, S
 use Rattle.scop_reader.specs.Lines.{Rest, words_of, word_bytes}
 use Rattle.scop_reader.specs.Rules.{suits, role_behind, most_outputs, outputs_of_first, from_open, open_word}
 use Rattle.scop_reader.specs.Documents.{Said, Literal, Words, Numbers, Entry, Closing, Raw, End, is_value, are_numbers, is_entry, behind, behind_all, Item, Special, Kept, Parts, StatementText, Document, count, said_row, said_part, said_count, said_relation, said_access, said_item, said_body, said_array, said_arrays, said_statement, said_parameters, said_context, said_document, first_special, kept_items, access_pieces, statement_pieces, pieces_of}
-use Rattle.scop_reader.specs.Texts.{IsFormed, are_wide, StatementIsHeld, IsHeld, IsTextOf, IsTextOfPieces}
+use Rattle.scop_core.specs.Held.{IsFormed, StatementIsHeld, IsHeld}
+use Rattle.scop_reader.specs.Texts.{are_wide, IsTextOf, IsTextOfPieces}
 use Rattle.scop_reader.proofs.GrammarLines.{behind_line, split_one, behind_fewer}
 use Rattle.scop_reader.proofs.GrammarWords.{value_is}
 use Rattle.scop_reader.proofs.GrammarPrinted.{AreSmall}

@@ -1,17 +1,15 @@
 -- Which SCoP a text stands for, and why a text stands for none.
-use Rattle.std.specs.Prelude.{◌≡◌, ◌<◌, ◌^◌, ℕ, unsigned_abs, All, IfSome, Bool, true, false, ◌&&◌, ◌||◌, ◌==◌, List, [], ◌∷◌, length, Option, Some, None, Result, Ok, Err}
+use Rattle.std.specs.Prelude.{◌≡◌, ◌<◌, ◌^◌, ℕ, Bool, true, false, ◌&&◌, ◌||◌, ◌==◌, List, [], ◌∷◌, length, Option, Some, None, Result, Ok, Err}
 use Rattle.suite_base.specs.declared.refusals.Refusal.{Refusal}
 use Rattle.suite_base.specs.Lines.{lines}
 use Rattle.relation_core.specs.declared.part_rows.PartRow.{PartRow}
-use Rattle.relation_core.specs.Systems.{System, width, IsWellFormed}
+use Rattle.relation_core.specs.Systems.{System, width}
 use Rattle.scop_core.specs.declared.accesses.AccessKind.{AccessKind}
-use Rattle.scop_core.specs.declared.raw_pieces.RawStatement.{RawStatement}
 use Rattle.scop_core.specs.declared.raw_pieces.ScopPieces.{ScopPieces}
 use Rattle.scop_core.specs.Assembly.{whole_limit, first_limit, refusal_of, scop_of}
 use Rattle.scop_core.specs.ScopData.{ScopData}
 use Rattle.scop_core.specs.Printable.{IsPrintable}
 use Rattle.scop_core.specs.Layouts.{layout}
-use Rattle.scop_core.specs.ReadBack.{pieces_of as printed_pieces}
 use Rattle.scop_core.specs.Validity.{IsValid}
 use Rattle.scop_reader.specs.Lines.{Rest}
 use Rattle.scop_reader.specs.Reading.{Outcome}
@@ -121,26 +119,9 @@ StandsForOne = (bytes : List ℕ) (S T : ScopData) → IsScopText bytes S → Is
 
 -- ---- printed text
 
--- rows are as wide as the shape, entries are coefficients, no number of the shape is too large
-abbrev pub IsFormed : System → Type 0
-IsFormed part = IsWellFormed part.shape part.rows
-
--- the parts of a statement are well-formed, and its extensions can be counted
-pub record StatementIsHeld (raw : RawStatement) : Type 0 where
-  pub domain : All IsFormed raw.domain
-  pub scattering : All IsFormed raw.scattering
-  pub accesses : All (λ access. All IsFormed access.1) raw.accesses
-  pub extensions : length raw.extensions < 2 ^ 64
-
--- the pieces are such as types hold: parts are well-formed, numbers are in range
-pub record IsHeld (pieces : ScopPieces) : Type 0 where
-  pub context : IsFormed pieces.context
-  pub statements : All StatementIsHeld pieces.statements
-  pub arrays : IfSome pieces.arrays (All (λ array. unsigned_abs array.0 < 2 ^ 127))
-
 -- what is printed of a valid SCoP is a text of that SCoP
 abbrev pub LayoutReadsBack : Type 0
-LayoutReadsBack = (scop : ScopData) → IsValid scop → IsHeld (printed_pieces scop) → IsScopText (layout scop) scop
+LayoutReadsBack = (scop : ScopData) → IsValid scop → IsScopText (layout scop) scop
 
 -- what is printed of the SCoP of a text is a text of that SCoP
 abbrev pub TextsReadBack : Type 0

@@ -14,8 +14,7 @@ pub fn stands_for_one()
     ensures { StandsForOne }
 {}
 
-/// What is printed of a valid SCoP, whose parts are well-formed and whose numbers are in range, is a text
-/// of that SCoP, which is read as it.
+/// What is printed of a valid SCoP is a text of that SCoP.
 pub fn layout_reads_back()
     ensures { LayoutReadsBack }
 {}
