@@ -3,3 +3,4 @@ pub mod Places
 pub mod Regions
 pub mod Tokens
 pub mod Readings
+pub mod TokenForms

@@ -1,0 +1,19 @@
+//! The laws of cutting a text into tokens, for every text: functions that do nothing, and whose
+//! contracts are the laws.
+
+ghost use Rattle.c_lexer.specs.TokenForms.{TokensAreLongest, NoTokenIsMissed, TokensHaveOneKind};
+
+/// A token is cut exactly where no `/*` stands, and it is the longest one.
+pub fn tokens_are_longest()
+    ensures { TokensAreLongest }
+{}
+
+/// No token is cut exactly where a `/*` stands, or no front of the text is a token.
+pub fn no_token_is_missed()
+    ensures { NoTokenIsMissed }
+{}
+
+/// A text is a token of at most one kind.
+pub fn tokens_have_one_kind()
+    ensures { TokensHaveOneKind }
+{}
