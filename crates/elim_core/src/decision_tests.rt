@@ -2,6 +2,7 @@
 
 use crate::test_systems::{Wanted, answers, answers_after, columns, followed, push};
 use relation_core::RowKind;
+use std::alloc::Global;
 use std::process::Abort;
 use std::test::Fail;
 
@@ -18,7 +19,7 @@ struct Case {
     wanted: Wanted,
 }
 
-fn decides(rt: &impl Abort, alloc: std::alloc::Global, case: &Case) -> Result<(), Fail> {
+fn decides(rt: &impl Abort, alloc: Global, case: &Case) -> Result<(), Fail> {
     let mut base = columns(alloc, 1, case.inputs);
     for (kind, row) in case.base {
         push(rt, &mut base, *kind, row)?;
