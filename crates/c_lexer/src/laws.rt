@@ -1,6 +1,7 @@
 //! The laws of cutting a text into tokens, for every text: functions that do nothing, and whose
 //! contracts are the laws.
 
+ghost use Rattle.c_lexer.specs.Separators.{GapsAreSeparators};
 ghost use Rattle.c_lexer.specs.TokenForms.{TokensAreLongest, NoTokenIsMissed, TokensHaveOneKind};
 
 /// A token is cut exactly where no `/*` stands, and it is the longest one.
@@ -16,4 +17,10 @@ pub fn no_token_is_missed()
 /// A text is a token of at most one kind.
 pub fn tokens_have_one_kind()
     ensures { TokensHaveOneKind }
+{}
+
+/// The gap before a token is blanks, newlines and whole comments one after another, and no other of
+/// them follows.
+pub fn gaps_are_separators()
+    ensures { GapsAreSeparators }
 {}
