@@ -4,12 +4,13 @@
 ghost use Rattle.c_lexer.specs.Separators.{GapsAreSeparators};
 ghost use Rattle.c_lexer.specs.TokenForms.{TokensAreLongest, NoTokenIsMissed, TokensHaveOneKind};
 
-/// A token is cut exactly where no `/*` stands, and it is the longest one.
+/// A kind and a length are cut exactly if no `/*` begins the text, and they are those of the longest
+/// of its fronts that is a token.
 pub fn tokens_are_longest()
     ensures { TokensAreLongest }
 {}
 
-/// No token is cut exactly where a `/*` stands, or no front of the text is a token.
+/// Nothing is cut exactly if a `/*` begins the text, or no front of it is a token.
 pub fn no_token_is_missed()
     ensures { NoTokenIsMissed }
 {}
