@@ -6,3 +6,4 @@ pub mod ReadingLemmas
 mod Checks
 pub mod TokenForms
 pub mod TokenLaws
+pub mod Gaps

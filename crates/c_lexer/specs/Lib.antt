@@ -4,3 +4,4 @@ pub mod Regions
 pub mod Tokens
 pub mod Readings
 pub mod TokenForms
+pub mod Separators

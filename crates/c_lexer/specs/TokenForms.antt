@@ -55,11 +55,11 @@ pub record IsLongest (text : List ℕ) (kind : TokenKind) (n : ℕ) : Type 0 whe
 abbrev pub HasNoToken : List ℕ → Type 0
 HasNoToken text = (kind : TokenKind) (m : ℕ) → m ≤ length text → is_token_of kind (take m text) ≡ false
 
--- a token is cut exactly where no `/*` stands, and it is the longest one
+-- a kind and a length are cut exactly if no `/*` begins the text, and they are those of the longest token at its front
 abbrev pub TokensAreLongest : Type 0
 TokensAreLongest = (text : List ℕ) (kind : TokenKind) (n : ℕ) → (token_at text ≡ Some (kind, n)) ↔ ((opens_comment text ≡ false) × IsLongest text kind n)
 
--- none is cut exactly where a `/*` stands, or no front of the text is a token
+-- nothing is cut exactly if a `/*` begins the text, or no front of it is a token
 abbrev pub NoTokenIsMissed : Type 0
 NoTokenIsMissed = (text : List ℕ) → (token_at text ≡ None) ↔ ((opens_comment text ≡ true) ⊎ HasNoToken text)
 

@@ -1,14 +1,16 @@
 //! The laws of cutting a text into tokens, for every text: functions that do nothing, and whose
 //! contracts are the laws.
 
+ghost use Rattle.c_lexer.specs.Separators.{GapsAreSeparators};
 ghost use Rattle.c_lexer.specs.TokenForms.{TokensAreLongest, NoTokenIsMissed, TokensHaveOneKind};
 
-/// A token is cut exactly where no `/*` stands, and it is the longest one.
+/// A kind and a length are cut exactly if no `/*` begins the text, and they are those of the longest
+/// of its fronts that is a token.
 pub fn tokens_are_longest()
     ensures { TokensAreLongest }
 {}
 
-/// No token is cut exactly where a `/*` stands, or no front of the text is a token.
+/// Nothing is cut exactly if a `/*` begins the text, or no front of it is a token.
 pub fn no_token_is_missed()
     ensures { NoTokenIsMissed }
 {}
@@ -16,4 +18,10 @@ pub fn no_token_is_missed()
 /// A text is a token of at most one kind.
 pub fn tokens_have_one_kind()
     ensures { TokensHaveOneKind }
+{}
+
+/// The gap before a token is blanks, newlines and whole comments one after another, and no other of
+/// them follows.
+pub fn gaps_are_separators()
+    ensures { GapsAreSeparators }
 {}
