@@ -1,9 +1,11 @@
 use Rattle.std.proofs.Common.{◌≡◌, true, false, Some, None, Ok, Err, refl}
-use Rattle.std.specs.Prelude.{codes}
+use Rattle.std.specs.Prelude.{[], codes}
 use Rattle.c_lexer.specs.Pragmas.{is_scop_line, is_endscop_line, pragma_in}
 use Rattle.c_lexer.specs.Regions.{region_of}
 use Rattle.c_lexer.specs.Tokens.{gap, token_at}
-use Rattle.c_lexer.specs.declared.tokens.TokenKind.TheVariants.{Integer, Literal, Sign}
+use Rattle.c_lexer.specs.TokenForms.{is_token_of}
+use Rattle.c_lexer.specs.Separators.{has_close, space, line, comment, AreSeparators, none, one}
+use Rattle.c_lexer.specs.declared.tokens.TokenKind.TheVariants.{Name, Integer, Literal, Sign}
 use Rattle.c_lexer.specs.declared.regions.RegionFail.TheVariants.{NoRegion, OpenRegion, SecondRegion}
 use Rattle.c_lexer.specs.declared.pragmas.Pragma.TheVariants.{Scop, Endscop}
 
@@ -65,3 +67,27 @@ signs = (refl, refl, refl)
 
 none_here : (token_at (codes "&x") ≡ None) × (token_at (codes "/*x") ≡ None) × (token_at (codes ".x") ≡ None) × (token_at (codes "#") ≡ None)
 none_here = (refl, refl, refl, refl)
+
+-- what a token is, by its own bytes
+names : (is_token_of Name (codes "_x1") ≡ true) × (is_token_of Name (codes "1x") ≡ false) × (is_token_of Name (codes "x+") ≡ false)
+names = (refl, refl, refl)
+
+integers : (is_token_of Integer (codes "0") ≡ true) × (is_token_of Integer (codes "10") ≡ true) × (is_token_of Integer (codes "007") ≡ false) × (is_token_of Literal (codes "007") ≡ true)
+integers = (refl, refl, refl, refl)
+
+literals : (is_token_of Literal (codes ".5e-1") ≡ true) × (is_token_of Literal (codes "1e+5-") ≡ false) × (is_token_of Literal (codes ".") ≡ false) × (is_token_of Literal (codes "10") ≡ false)
+literals = (refl, refl, refl, refl)
+
+listed_signs : (is_token_of Sign (codes "<=") ≡ true) × (is_token_of Sign (codes "<==") ≡ false) × (is_token_of Sign (codes "&") ≡ false)
+listed_signs = (refl, refl, refl)
+
+-- what separates: a blank, a comment up to its line's end, the newline, and a comment up to its `*/`
+separators_of_all : AreSeparators (codes "x") (codes " // b\n/*a**/")
+separators_of_all =
+    one (codes " ") (codes "// b\n/*a**/") (space 32 refl refl)
+    (one (codes "// b") (codes "\n/*a**/") (line (codes " b") refl refl refl)
+    (one (codes "\n") (codes "/*a**/") (space 10 refl refl)
+    (one (codes "/*a**/") [] (comment (codes "a*") refl refl) none)))
+
+closed_once : (has_close (codes "a**") ≡ false) × (has_close (codes "a*/ *") ≡ true)
+closed_once = (refl, refl)

@@ -4,3 +4,6 @@ pub mod RegionBounds
 pub mod TokenLemmas
 pub mod ReadingLemmas
 mod Checks
+pub mod TokenForms
+pub mod TokenLaws
+pub mod Gaps

@@ -3,3 +3,5 @@ pub mod Places
 pub mod Regions
 pub mod Tokens
 pub mod Readings
+pub mod TokenForms
+pub mod Separators

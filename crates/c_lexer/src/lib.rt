@@ -2,6 +2,7 @@
 #![tactic(auto)]
 
 mod cuts;
+pub mod laws;
 mod lexers;
 mod place_steps;
 mod pragmas;

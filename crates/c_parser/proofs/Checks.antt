@@ -32,8 +32,26 @@ unfolding symbol after behind
 blanks =
     let r : Reading = text (codes "; { ; }") in
     let empty = later 1 r in
-    let block = later 4 r in
-    (block, (empty, IsStatement.blank refl (refl, refl), (block, IsStatement.block (node.Empty ∷ []) refl (omega arith, (later 2 r, (refl, refl), (later 3 r, (later 3 r, IsStatement.blank refl (refl, refl), refl), (refl, refl)))), refl)), refl)
+    let block = later 4 r in (
+      block,
+      (
+        empty,
+        IsStatement.blank refl (refl, refl),
+        (
+          block,
+          IsStatement.block (node.Empty ∷ []) refl (
+            omega arith,
+            (
+              later 2 r,
+              (refl, refl),
+              (later 3 r, (later 3 r, IsStatement.blank refl (refl, refl), refl), (refl, refl)),
+            ),
+          ),
+          refl,
+        ),
+      ),
+      refl,
+    )
 
 -- the step `i++` of a loop over the name that stands first
 steps : step (record { from = 0; to = 1 }) st.PostUp (later 1 (text (codes "i i++"))) (later 3 (text (codes "i i++")))

@@ -16,7 +16,7 @@ use Rattle.c_parser.specs.Input.{Outcome, Parser, and_then, ◌>>=◌, ◌>>◌,
 use Rattle.c_parser.specs.Values.{signed_from, separated_from, product_sign, sum_sign, rel_sign, equal_sign}
 use Rattle.c_parser.specs.Grammar.{Phrase, ◌then◌, token, word, signed, others}
 use Rattle.c_parser.proofs.TokenFacts.{same_is, differs, sees_it, sees_other, left_less, not_true}
-use Rattle.c_parser.proofs.Yields.{Yields, Takes, some_nests, IsToken}
+use Rattle.c_parser.proofs.Yields.{Yields, Takes, some_nests, OfToken}
 
 -- the rest of a phrase behind its first token
 pub token_then : (k : Symbol) (r : Reading) (E : Reading → Type 0) → ((m : Reading) × token k r m × E m) → (symbol r ≡ k) × E (after r)
@@ -75,14 +75,13 @@ no_equal _ h = refl
 pub other : (k : Symbol) (r : Reading) (n : ℕ) → n ≤ power (symbol r) → power k < n → symbol r ≡ k → ⊥
 other k r n h g e = let p : power (symbol r) ≡ power k = ap power e in absurd (omega (arith, p))
 
-pub weak_token : (k : Symbol) → power k < 8 → IsToken k
+pub weak_token : (k : Symbol) → power k < 8 → OfToken k
 weak_token k h = ((λ e. let p : power k ≡ power s.End = ap power e in absurd (omega (arith, p))), (λ e. let p : power k ≡ power s.Bad = ap power e in absurd (omega (arith, p))))
 
-pub lesser : (k : Symbol) (r : Reading) → symbol r ≡ k → IsToken k → left (after r) < left r
+pub lesser : (k : Symbol) (r : Reading) → symbol r ≡ k → OfToken k → left (after r) < left r
 lesser k r e h = left_less r (λ f. h.0 (sym e ∙ f)) (λ f. h.1 (sym e ∙ f))
 
 module _ (Deep : Type 0) where
-
   -- the refusal is one of depth, and such a one may come
   abbrev pub IsLimit : Refusal → Type 0
   IsLimit (TooDeep p) = Deep
@@ -162,7 +161,6 @@ module _ (Deep : Type 0) where
   module _ {S A : Type 0} (sign : Symbol → Option S) (mark : S → Symbol) (item : Parser A) (form : A → Phrase) (P : Reading → A → Reading → Type 0) (limit : ℕ)
       (forth : (x : S) → sign (mark x) ≡ Some x) (stops : (k : Symbol) → suc limit ≤ power k → sign k ≡ None) (marks : (x : S) → power (mark x) ≡ limit) (weak : limit < 8)
       (goes : (r : Reading) → Yields r (P r) (item r)) (items : (a : A) (r m : Reading) → form a r m → limit ≤ power (symbol m) → Comes a m (item r)) where
-
     pub signed_ends : (more : List (S × A)) (r m : Reading) → signed mark form more r m → suc limit ≤ power (symbol m) → limit ≤ power (symbol r)
     signed_ends [] r m d h = rw d (omega arith)
     signed_ends (x ∷ more) r m d h = ends (mark x.0) r limit d.1.0 (omega (arith, marks x.0))
@@ -185,9 +183,8 @@ module _ (Deep : Type 0) where
         (λ f. subst (λ l. Comes l m (signed_from sign item n (found ++ x ∷ []) a.1.0)) (append_assoc found (x ∷ []) more)
         (signed_comes more n (found ++ x ∷ []) a.1.0 m (omega (arith, f, less, fuel)) a.1.2 h)))
 
-  module _ {A : Type 0} (sign : Symbol) (item : Parser A) (form : A → Phrase) (P : Reading → A → Reading → Type 0) (limit : ℕ) (bound : limit ≤ power sign) (token_is : IsToken sign)
+  module _ {A : Type 0} (sign : Symbol) (item : Parser A) (form : A → Phrase) (P : Reading → A → Reading → Type 0) (limit : ℕ) (bound : limit ≤ power sign) (token_is : OfToken sign)
       (goes : (r : Reading) → Yields r (P r) (item r)) (items : (a : A) (r m : Reading) → form a r m → limit ≤ power (symbol m) → Comes a m (item r)) where
-
     others_end : (more : List A) (r m : Reading) → others sign form more r m → limit ≤ power (symbol m) → limit ≤ power (symbol r)
     others_end [] r m d h = rw d h
     others_end (x ∷ more) r m d h = ends sign r limit d.1.0 bound

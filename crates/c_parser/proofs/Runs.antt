@@ -91,7 +91,6 @@ alike_far m P (Ok y) f g h k = k y.0 y.1 h.0
 alike_far m P (Err e) f g h k = refl
 
 module _ (r : Reading) where
-
   -- why the parser stops at the token behind so many
   abbrev pub Cause : ℕ → Refusal → Type 0
   Cause k (BadToken p) = (here (later k r) ≡ p) × (symbol (later k r) ≡ s.Bad)
@@ -159,9 +158,13 @@ module _ (r : Reading) where
 
   pub refuse_runs : (A : Type 0) (i : ℕ) → Sound i r → Runs {A = A} (λ x. refuse) i (refuse (later i r))
   unfolding refusal Runs
-  refuse_runs A i sound =
-      (i, omega arith, sound, cause_at i (symbol (later i r)) refl,
-      λ x d. ap (λ k. kind (refusal_at k (here (later i r)))) d.1.0 ∙ kind_at (symbol (later i x)) (here (later i r)) (here (later i x)))
+  refuse_runs A i sound = (
+    i,
+    omega arith,
+    sound,
+    cause_at i (symbol (later i r)) refl,
+    λ x d. ap (λ k. kind (refusal_at k (here (later i r)))) d.1.0 ∙ kind_at (symbol (later i x)) (here (later i r)) (here (later i x)),
+  )
 
   pub peek_then : {B : Type 0} (f : Reading → Symbol → Parser B) (i : ℕ) (o : Outcome B) → Runs (λ x. f x (symbol (later i r))) i o → Runs (λ x. peek >>= f x) i o
   peek_then f i o h = runs_as (λ x. peek >>= f x) (λ x. f x (symbol (later i r))) i i o (omega arith) (λ x d. ap (λ k. f x k (later i x)) (sym d.1.0)) h
@@ -204,9 +207,15 @@ module _ (r : Reading) where
   expect_cases : (k : Symbol) (i : ℕ) (b : Bool) → sees k (later i r) ≡ b → is_sound k ≡ true → Sound i r
       → Runs (λ x. expect k) i (if b then Ok (piece (later i r), after (later i r)) else refuse (later i r))
   unfolding expect Runs
-  expect_cases k i true e good sound =
-      (suc i, (λ x. piece (later i x)), omega arith, (sound, ap is_sound (seen k (later i r) e) ∙ good), refl, refl,
-      λ x d. ap (λ t. if t then Ok (piece (later i x), after (later i x)) else refuse (later i x)) (sym (sees_same k (later i r) (later i x) d.0.1.0) ∙ e))
+  expect_cases k i true e good sound = (
+    suc i,
+    (λ x. piece (later i x)),
+    omega arith,
+    (sound, ap is_sound (seen k (later i r) e) ∙ good),
+    refl,
+    refl,
+    λ x d. ap (λ t. if t then Ok (piece (later i x), after (later i x)) else refuse (later i x)) (sym (sees_same k (later i r) (later i x) d.0.1.0) ∙ e),
+  )
   expect_cases k i false e good sound =
       runs_as (λ x. expect k) (λ x. refuse) i i (refuse (later i r)) (omega arith)
       (λ x d. ap (λ t. if t then Ok (piece (later i x), after (later i x)) else refuse (later i x)) (sym (sees_same k (later i r) (later i x) d.1.0) ∙ e)) (refuse_runs Piece i sound)
@@ -255,7 +264,6 @@ module _ (r : Reading) where
 
   module _ {X B : Type 0} (L : ℕ → X → Parser B) (F : (X → Parser B) → X → Parser B) (turn : (n : ℕ) (x : X) (m : Reading) → L (suc n) x m ≡ F (L n) x m)
       (alike : (f g : X → Parser B) (x : X) (m : Reading) → ((y : X) (l : Reading) → left l < left m → f y l ≡ g y l) → F f x m ≡ F g x m) where
-
     -- with as many turns as are needed
     abbrev pub again : X → Parser B
     again x = λ m. L (left m) x m
@@ -272,8 +280,7 @@ module _ (r : Reading) where
 
     module _ (Holds : ℕ → Type 0)
         (step : (n : ℕ) (x : Reading → X) (i : ℕ) → Holds i → ((y : Reading → X) (k : ℕ) → i < k → Sound k r → Holds k → Runs (λ z. again (y z)) k (L n (y r) (later k r)))
-            → Runs (λ z. F again (x z)) i (F (L n) (x r) (later i r))) where
-
+        → Runs (λ z. F again (x z)) i (F (L n) (x r) (later i r))) where
       pub loop_runs : (n : ℕ) (x : Reading → X) (i : ℕ) → Holds i → left (later i r) ≤ n → Runs (λ z. again (x z)) i (L n (x r) (later i r))
       loop_runs zero x i h fuel = absurd (omega arith)
       loop_runs (suc n) x i h fuel =
@@ -286,7 +293,6 @@ module _ (r : Reading) where
   module _ {S A : Type 0} (sign : Symbol → Option S) (item : Parser A) (P : Reading → A → Reading → Type 0) (goes : (m : Reading) → Yields m (P m) (item m))
       (good : (k : Symbol) (x : S) → sign k ≡ Some x → is_sound k ≡ true) (Holds : ℕ → Type 0) (sounds : (i : ℕ) → Holds i → Sound i r)
       (holds : (i k : ℕ) → i ≤ k → Holds i → Sound k r → Holds k) (items : (i : ℕ) → Holds i → Runs (λ x. item) i (item (later i r))) where
-
     abbrev Turn : (List (S × A) → Parser (List (S × A))) → List (S × A) → Parser (List (S × A))
     Turn f found = peek >>= (λ k. go_on item f found (sign k))
 
@@ -328,7 +334,6 @@ module _ (r : Reading) where
   module _ {A : Type 0} (sign : Symbol) (good : is_sound sign ≡ true) (item : Parser A) (P : Reading → A → Reading → Type 0) (goes : (m : Reading) → Yields m (P m) (item m))
       (Holds : ℕ → Type 0) (sounds : (i : ℕ) → Holds i → Sound i r)
       (holds : (i k : ℕ) → i ≤ k → Holds i → Sound k r → Holds k) (items : (i : ℕ) → Holds i → Runs (λ x. item) i (item (later i r))) where
-
     abbrev Next : (List A → Parser (List A)) → List A → A → Bool → Parser (List A)
     Next f found a more = if more then f (found ++ a ∷ []) else pure (found ++ a ∷ [])
 
@@ -346,6 +351,7 @@ module _ (r : Reading) where
         pick : (a : A) (l : Reading) → left l ≤ left m → (b : Bool) → sees sign l ≡ b → Next f found a b (if b then after l else l) ≡ Next g found a b (if b then after l else l)
         pick a l d true e = let less : left (after l) < left l = sound_less l (ap is_sound (seen sign l e) ∙ good) in h (found ++ a ∷ []) (after l) (omega (arith, d, less))
         pick a l d false e = refl
+
         go : (a : A) (l : Reading) → left l ≤ left m → (eat sign >>= Next f found a) l ≡ (eat sign >>= Next g found a) l
         go a l d = pick a l d (sees sign l) refl
 

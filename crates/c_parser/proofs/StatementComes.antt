@@ -64,7 +64,6 @@ begins_so (suc wanted) zero t r m x = begun _ _ _ _ t r m x
 begins_so (suc wanted) (suc limit) t r m x = begun _ _ _ _ t r m x
 
 module _ (Deep : Type 0) where
-
   token_comes : (k : Symbol) (r m : Reading) → token k r m → Comes Deep (piece r) m (expect k r)
   unfolding expect
   token_comes k r m d = rw (sees_it k r d.0) (refl, d.1)
@@ -138,7 +137,6 @@ module _ (Deep : Type 0) where
   round_comes b n r wanted nests f h some e k = rw (same_is (symbol r) s.OpenRound e) (round_cases b n r wanted nests (here r) f (nests == 0) refl h some k)
 
   module _ (wanted nests : ℕ) (room : Room Deep wanted nests) where
-
     rest_comes : 0 < nests → (h : Head) (r m : Reading) → is_up h.step ≡ is_upward h.rel → d.second_half wanted h r m → Comes Deep h m (head_rest nests h.name h.start r)
     unfolding head_rest
     rest_comes some h r m up (r1, one, (r2, two, (r3, three, (r4, four, (r5, five, (r6, six, seven)))))) =
@@ -184,9 +182,11 @@ module _ (Deep : Type 0) where
         then_comes Deep a.target r1 a m _ _ (target_comes Deep wanted nests room (nested_full Deep wanted nests room) a.target r r1 begun (ends (assign_token a.sign) r1 1 two.0 (omega (arith, assign_power a.sign))))
         (then_comes Deep a.sign r2 a m _ _ (assigned_comes a.sign r1 r2 two)
         (then_comes Deep a.value r3 a m _ _ (value_comes Deep wanted nests room (nested_full Deep wanted nests room) a.value r2 r3 three (ends s.Semicolon r3 8 ended.0 (omega arith)))
-        (then_comes Deep (piece r3) m a m _ _ (token_comes s.Semicolon r3 m ended)
-        (ap (λ f. record { body = record { from = f; to = start r3 }; target = a.target; sign = a.sign; value = a.value }) front.0
-        ∙ ap (λ t. record { body = record { from = a.body.from; to = t }; target = a.target; sign = a.sign; value = a.value }) four.0, refl))))
+        (then_comes Deep (piece r3) m a m _ _ (token_comes s.Semicolon r3 m ended) (
+          ap (λ f. record { body = record { from = f; to = start r3 }; target = a.target; sign = a.sign; value = a.value }) front.0
+              ∙ ap (λ t. record { body = record { from = a.body.from; to = t }; target = a.target; sign = a.sign; value = a.value }) four.0,
+          refl,
+        ))))
 
 -- ---- statements
 
@@ -197,7 +197,6 @@ pub record Whole (Deep : Type 0) (rule : Parser Node) (form : Node → Phrase) :
 
 module _ (Deep : Type 0) (wanted nests limit loops : ℕ) (room : Room Deep wanted nests) (space : Room Deep limit loops) (inner body : Parser Node) (nest_form loop_form : Node → Phrase)
     (P : Reading → Node → Reading → Type 0) (taken : (r : Reading) → Takes r (P r) (inner r)) (inners : 0 < nests → Whole Deep inner nest_form) (bodies : 0 < loops → Whole Deep body loop_form) where
-
   some_loops : {B : Type 0} (b : B) (n r : Reading) (q : Parser B) → 0 < limit → (0 < loops → Comes Deep b n (q r)) → Comes Deep b n ((open_loop loops >> q) r)
   unfolding open_loop
   some_loops b n r q some k = open_comes Deep b n r limit loops (here r) q (loops == 0) refl space some k
@@ -274,29 +273,28 @@ module _ (Deep : Type 0) (wanted nests : ℕ) (room : Room Deep wanted nests) (i
     (P : ℕ → Reading → Node → Reading → Type 0) (taken : (l : ℕ) (r : Reading) → Takes r (P l r) (inner l r))
     (begins : (l : ℕ) (o : Node) (x y : Reading) → form l o x y → begins_statement (symbol x) ≡ true)
     (inners : (limit loops : ℕ) → Room Deep limit loops → 0 < nests → Whole Deep (inner loops) (form limit)) where
-
   pub level_whole : (limit loops : ℕ) → Room Deep limit loops → Whole Deep (level nests inner loops) (d.level wanted form limit)
   unfolding level
   level_whole zero zero space = record {
     comes = statement_comes Deep wanted nests zero zero room space (inner zero) refuse (form zero) (λ t. g.none) (P zero) (taken zero) (inners zero zero space) (λ some. absurd (omega arith)) (begins zero);
-    begins = begun wanted zero (form zero) (λ t. g.none)
+    begins = begun wanted zero (form zero) (λ t. g.none);
   }
   level_whole zero (suc loops) space = record {
     comes = statement_comes Deep wanted nests zero (suc loops) room space (inner (suc loops)) (level nests inner loops) (form zero) (λ t. g.none) (P (suc loops)) (taken (suc loops)) (inners zero (suc loops) space)
-    (λ some. record { comes = λ t r m x. absurd x; begins = λ t r m x. absurd x }) (begins zero);
-    begins = begun wanted zero (form zero) (λ t. g.none)
+        (λ some. record { comes = λ t r m x. absurd x; begins = λ t r m x. absurd x }) (begins zero);
+    begins = begun wanted zero (form zero) (λ t. g.none);
   }
   level_whole (suc limit) zero space = record {
     comes = statement_comes Deep wanted nests (suc limit) zero room space (inner zero) refuse (form (suc limit)) (d.level wanted form limit) (P zero) (taken zero) (inners (suc limit) zero space)
-    (λ some. absurd (omega arith)) (begins (suc limit));
-    begins = begun wanted (suc limit) (form (suc limit)) (d.level wanted form limit)
+        (λ some. absurd (omega arith)) (begins (suc limit));
+    begins = begun wanted (suc limit) (form (suc limit)) (d.level wanted form limit);
   }
   level_whole (suc limit) (suc loops) space =
       let less : Whole Deep (level nests inner loops) (d.level wanted form limit) = level_whole limit loops (less_room Deep limit loops space) in
       record {
         comes = statement_comes Deep wanted nests (suc limit) (suc loops) room space (inner (suc loops)) (level nests inner loops) (form (suc limit)) (d.level wanted form limit) (P (suc loops)) (taken (suc loops))
-        (inners (suc limit) (suc loops) space) (λ some. less) (begins (suc limit));
-        begins = begun wanted (suc limit) (form (suc limit)) (d.level wanted form limit)
+            (inners (suc limit) (suc loops) space) (λ some. less) (begins (suc limit));
+        begins = begun wanted (suc limit) (form (suc limit)) (d.level wanted form limit);
       }
 
 refuse_takes : (l : ℕ) (r : Reading) → Takes {A = Node} r (λ t m. Unit {0}) (refuse r)
@@ -316,7 +314,6 @@ statement_whole Deep (suc wanted) (suc nests) room limit loops space =
     (λ limit loops space some. statement_whole Deep wanted nests (less_room Deep wanted nests room) limit loops space) limit loops space
 
 module _ (Deep : Type 0) (wanted limit : ℕ) (room : Room Deep wanted 64) (space : Room Deep limit 12) where
-
   from_comes : (nodes : List Node) (n : ℕ) (found : List Node) (r m : Reading) → left r ≤ n → each (d.statement wanted limit) nodes r m → symbol m ≡ s.End
       → Comes Deep (found ++ nodes) m (region_from n found r)
   unfolding region_from

@@ -45,7 +45,6 @@ add_sound true = refl
 add_sound false = refl
 
 module _ (r : Reading) where
-
   later_text : (k : ℕ) (x : Reading) → (later k x).text ≡ x.text
   unfolding after
   later_text zero x = refl
@@ -167,7 +166,6 @@ module _ (r : Reading) where
   name_then f i sound h = name_cases f i (sees s.Name (later i r)) refl sound h
 
   module _ (nests : ℕ) where
-
     abbrev round : {B : Type 0} → Parser B → Symbol → Parser B
     round q kind = if same_symbol kind s.OpenRound then (open_nest nests >> (take_token >> q)) else refuse
 
@@ -277,7 +275,6 @@ enter_nest r n l i k d e good one =
 module _ (r : Reading) (nests loops : ℕ) (inner body : Parser Node) (P : Reading → Node → Reading → Type 0) (taken : (m : Reading) → Takes m (P m) (inner m))
     (inners : (i : ℕ) → Nested r nests loops i → Runs r (λ x. inner) i (inner (later i r)))
     (bodies : (i : ℕ) → Sound i r → 64 ≤ nests + nests_among i r → 13 ≤ loops + loops_among i r → Runs r (λ x. body) i (body (later i r))) where
-
   loop_then : {B : Type 0} (q : Reading → Parser B) (i : ℕ) → Ahead r nests loops i → symbol (later i r) ≡ s.For → Runs r q i (q r (later i r))
       → Runs r (λ x. open_loop loops >> q x) i ((open_loop loops >> q r) (later i r))
   unfolding open_loop
@@ -391,7 +388,6 @@ statement_runs r (suc nests) loops i d =
     level_runs r (suc nests) (statement nests) _ (statement_takes nests) (λ l k x. statement_runs r nests l k (x.0, omega (arith, x.1), x.2)) loops i d
 
 module _ (r : Reading) where
-
   abbrev One : (List Node → Parser (List Node)) → List Node → Parser (List Node)
   One f found = statement 64 12 >>= (λ next. f (found ++ next ∷ []))
 

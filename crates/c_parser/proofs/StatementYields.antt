@@ -23,7 +23,7 @@ use Rattle.c_parser.specs.Derivations as d
 use Rattle.c_parser.specs.Derivations.{assign_token, bytes_of, same, is_up, Derived}
 use Rattle.c_parser.proofs.TokenFacts.{seen, is_same, some_is, not_seen, left_after}
 use Rattle.c_parser.proofs.Yields.{Yields, then_yields, if_yields, choose_yields, expect_yields, yields_so, opened, eat_yields, some_nests, Takes, then_takes, take_takes, open_takes, opened_takes, takes_yields}
-use Rattle.c_parser.proofs.ValueYields.{rel_back, target_takes, value_yields, nested_sound}
+use Rattle.c_parser.proofs.ValueYields.{rel_back, target_takes, value_yields, nested_derives}
 
 pub assign_back : (k : Symbol) (x : AssignSign) → assign_sign k ≡ Some x → k ≡ assign_token x
 assign_back s.Assign x e = ap assign_token (some_is e)
@@ -110,7 +110,7 @@ module _ (nests : ℕ) where
   rest_yields name start r =
       then_yields r _ (Rest name start r) _ _ (same_yields name r) (λ x1 r1 d1.
       then_yields r1 _ (Rest name start r) _ _ (rel_yields r1) (λ order r2 d2.
-      then_yields r2 _ (Rest name start r) _ _ ((nested_sound nests).sum r2) (λ bound r3 d3.
+      then_yields r2 _ (Rest name start r) _ _ ((nested_derives nests).sum r2) (λ bound r3 d3.
       then_yields r3 _ (Rest name start r) _ _ (expect_yields s.Semicolon r3) (λ x4 r4 d4.
       then_yields r4 _ (Rest name start r) _ _ (step_yields (is_upward order) name r4) (λ found r5 d5.
       then_yields r5 _ (Rest name start r) _ _ (expect_yields s.CloseRound r5) (λ x6 r6 d6.
@@ -126,7 +126,7 @@ module _ (nests : ℕ) where
       declared_yields r1 (λ h m. d.head nests h r m) _ (λ r2 d2.
       then_yields r2 _ (λ h m. d.head nests h r m) _ _ (expect_yields s.Name r2) (λ name r3 d3.
       then_yields r3 _ (λ h m. d.head nests h r m) _ _ (expect_yields s.Assign r3) (λ x4 r4 d4.
-      then_yields r4 _ (λ h m. d.head nests h r m) _ _ ((nested_sound nests).sum r4) (λ start r5 d5.
+      then_yields r4 _ (λ h m. d.head nests h r m) _ _ ((nested_derives nests).sum r4) (λ start r5 d5.
       then_yields r5 _ (λ h m. d.head nests h r m) _ _ (expect_yields s.Semicolon r5) (λ x6 r6 d6.
       yields_so r6 _ (λ h m. d.head nests h r m) _ (rest_yields name start r6) (λ h m e.
       let N : Piece → Type 0 = λ p. word s.Name p r2 r3 in
@@ -136,9 +136,9 @@ module _ (nests : ℕ) where
   pub assign_takes : (r : Reading) → Takes r (λ a m. d.assignment nests a r m) (assign nests r)
   unfolding assign
   assign_takes r =
-      then_takes r _ (λ a m. d.assignment nests a r m) _ _ (target_takes nests (below nests) (nested nests) (nested_sound nests) r) (λ t r1 d1.
+      then_takes r _ (λ a m. d.assignment nests a r m) _ _ (target_takes nests (below nests) (nested nests) (nested_derives nests) r) (λ t r1 d1.
       then_yields r1 _ (λ a m. d.assignment nests a r m) _ _ (assigned_yields r1) (λ mark r2 d2.
-      then_yields r2 _ (λ a m. d.assignment nests a r m) _ _ (value_yields nests (below nests) (nested nests) (nested_sound nests) r2) (λ v r3 d3.
+      then_yields r2 _ (λ a m. d.assignment nests a r m) _ _ (value_yields nests (below nests) (nested nests) (nested_derives nests) r2) (λ v r3 d3.
       then_yields r3 _ (λ a m. d.assignment nests a r m) _ _ (expect_yields s.Semicolon r3) (λ x4 r4 d4.
       (omega arith, (r, (refl, refl), (r1, d1, (r2, d2, (r3, d3, (r3, (refl, refl), (d4.0, d4.2)))))))))))
 
@@ -146,7 +146,6 @@ module _ (nests : ℕ) where
 
 module _ (nests loops : ℕ) (inner body : Parser Node) (nest_form loop_form : Node → Phrase)
     (inners : (r : Reading) → Takes r (λ t m. nest_form t r m) (inner r)) (bodies : (r : Reading) → Takes r (λ t m. loop_form t r m) (body r)) where
-
   abbrev Is : Reading → Node → Reading → Type 0
   Is r t m = d.IsStatement nests loops nest_form loop_form t r m
 
@@ -180,7 +179,7 @@ module _ (nests loops : ℕ) (inner body : Parser Node) (nest_form loop_form : N
   unfolding if_branch
   if_branch_takes r e =
       take_takes s.If r (Is r) _ e ((λ f. absurd (cc)), (λ f. absurd (cc))) (then_yields (after r) _ (Is r) _ _ (round_yields nests (after r)) (λ x1 r1 d1.
-      then_yields r1 _ (Is r) _ _ ((nested_sound nests).value r1) (λ condition r2 d2.
+      then_yields r1 _ (Is r) _ _ ((nested_derives nests).value r1) (λ condition r2 d2.
       then_yields r2 _ (Is r) _ _ (expect_yields s.CloseRound r2) (λ x3 r3 d3.
       then_yields r3 _ (Is r) _ _ (branch_yields r3) (λ one r4 d4.
       then_yields r4 _ (Is r) _ _ (else_yields r4) (λ other r5 d5.

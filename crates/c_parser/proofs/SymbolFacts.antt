@@ -66,11 +66,11 @@ single_sound b e = one_of (λ x. is_sound (single x) ≡ true) b (codes "()[]{};
 pair_sound : (a b : ℕ) → is_pair a b ≡ true → is_sound (if b == 61 then assigned a else doubled a) ≡ true
 pair_sound a b e = elim (either (b == 61 && is_one_of a (codes "+-*/%<>=!")) (b == a && is_one_of a (codes "+-&|")) e) [
   | inl f ↦ (let h = both (b == 61) (is_one_of a (codes "+-*/%<>=!")) f in
-    rw h.0 (one_of (λ x. is_sound (assigned x) ≡ true) a (codes "+-*/%<>=!") h.1 (refl, (refl, (refl, (refl, (refl, (refl, (refl, (refl, (refl, tt)))))))))))
+      rw h.0 (one_of (λ x. is_sound (assigned x) ≡ true) a (codes "+-*/%<>=!") h.1 (refl, (refl, (refl, (refl, (refl, (refl, (refl, (refl, (refl, tt)))))))))))
   | inr f ↦ (let h = both (b == a) (is_one_of a (codes "+-&|")) f in
-    let same : b ≡ a = eqb-true b a h.0 in
-    subst (λ y. is_sound (if y == 61 then assigned a else doubled a) ≡ true) (sym same)
-    (one_of (λ x. is_sound (if x == 61 then assigned x else doubled x) ≡ true) a (codes "+-&|") h.1 (refl, (refl, (refl, (refl, tt))))))
+      let same : b ≡ a = eqb-true b a h.0 in
+      subst (λ y. is_sound (if y == 61 then assigned a else doubled a) ≡ true) (sym same)
+      (one_of (λ x. is_sound (if x == 61 then assigned x else doubled x) ≡ true) a (codes "+-&|") h.1 (refl, (refl, (refl, (refl, tt))))))
 ]
 
 -- the sign at the front of a text
@@ -83,7 +83,7 @@ sign_sound (a ∷ text) h = go text (is_pair a (slice_index (a ∷ text) 1)) ref
     go [] true e q f h = elim (either (0 == 61 && is_one_of a (codes "+-*/%<>=!")) (0 == a && is_one_of a (codes "+-&|")) e) [
       | inl x ↦ absurd (cc)
       | inr x ↦ (let y = both (0 == a) (is_one_of a (codes "+-&|")) x in
-        absurd (one_of (λ z. 0 ≡ z → ⊥) a (codes "+-&|") y.1 ((λ z. absurd (omega (arith, z))), ((λ z. absurd (omega (arith, z))), ((λ z. absurd (omega (arith, z))), ((λ z. absurd (omega (arith, z))), tt)))) (eqb-true 0 a y.0)))
+          absurd (one_of (λ z. 0 ≡ z → ⊥) a (codes "+-&|") y.1 ((λ z. absurd (omega (arith, z))), ((λ z. absurd (omega (arith, z))), ((λ z. absurd (omega (arith, z))), ((λ z. absurd (omega (arith, z))), tt)))) (eqb-true 0 a y.0)))
     ]
     go (b ∷ text) true e q f h = pair_sound a b e
     go text false e true f h = single_sound a f
@@ -135,7 +135,7 @@ bad_cut text from false None e f = refl
 bad_cut text from false (Some t) e f = elim (standing text from t (token_known (drop from text) t e)) [
   | inl h ↦ (let k : false ≡ true = sym (ap is_sound f) ∙ h in absurd (cc))
   | inr h ↦ (let k : symbol_of kind.Integer (slice text from (from + t.1)) ≡ s.Bad = ap (λ x. symbol_of x (slice text from (from + t.1))) (sym h.0) ∙ f in
-    let l : s.TooLarge ≡ s.Bad = rw h.1 at k in absurd (cc))
+      let l : s.TooLarge ≡ s.Bad = rw h.1 at k in absurd (cc))
 ]
 
 -- where no symbol of a token stands, no token begins

@@ -31,7 +31,7 @@ use Rattle.c_parser.specs.Values.{Rules, separated, equal_sign, rel_sign, sum_si
 use Rattle.c_parser.specs.Grammar as g
 use Rattle.c_parser.specs.Grammar.{Phrase, ◌then◌, token, word, empty, each, signed, others, equal_token, rel_token, sum_token, product_token, unary_token, Forms, no_forms, nested}
 use Rattle.c_parser.proofs.ValueYields as y
-use Rattle.c_parser.proofs.ValueYields.{nested_sound}
+use Rattle.c_parser.proofs.ValueYields.{nested_derives}
 use Rattle.c_parser.proofs.Comes.{token_then, word_then, power, ends, no_product, no_sum, no_rel, no_equal, other, Comes, Room, less_room, then_comes, goes_far, expect_comes, word_comes, opened_comes, eat_yes, eat_no, choose_yes, choose_no, signed_ends, signed_comes, separated_comes}
 
 -- ---- signs from their tokens
@@ -94,7 +94,6 @@ pub record Full (Deep : Type 0) (inner : Rules) (forms : Forms) : Type 0 where
   pub opens : (t : Value) (r m : Reading) → forms.value t r m → symbol r ≡ s.CloseRound → ⊥
 
 module _ (Deep : Type 0) (wanted nests : ℕ) (room : Room Deep wanted nests) (h : 0 < nests → Full Deep (below nests) (nested wanted)) where
-
   abbrev I : Rules
   I = below nests
 
@@ -116,7 +115,7 @@ module _ (Deep : Type 0) (wanted nests : ℕ) (room : Room Deep wanted nests) (h
   subs_come [] (suc n) found r m fuel d stop = choose_no Deep (found ++ []) m r s.OpenSquare _ _ (λ e. stop (sym (ap symbol d) ∙ e)) (sym (append-nil found), d)
   subs_come (x ∷ more) (suc n) found r m fuel d stop =
       choose_yes Deep (found ++ x ∷ more) m r s.OpenSquare _ _ d.1.1.1.0
-      (goes_far Deep x r d.0 (found ++ x ∷ more) m _ (subscript nests I r) _ (y.subscript_takes nests I (nested nests) (nested_sound nests) r d.1.1.1.0) (subscript_comes x r d.0 d.1)
+      (goes_far Deep x r d.0 (found ++ x ∷ more) m _ (subscript nests I r) _ (y.subscript_takes nests I (nested nests) (nested_derives nests) r d.1.1.1.0) (subscript_comes x r d.0 d.1)
       (λ f. subst (λ l. Comes Deep l m (subscripts_from nests I n (found ++ x ∷ []) d.0)) (append_assoc found (x ∷ []) more)
       (subs_come more n (found ++ x ∷ []) d.0 m (omega (arith, f, fuel)) d.2 stop)))
 
@@ -139,7 +138,7 @@ module _ (Deep : Type 0) (wanted nests : ℕ) (room : Room Deep wanted nests) (h
       eat_no Deep (v ∷ more) m s.CloseRound r (λ is_empty. if is_empty then pure [] else (do found ← separated s.Comma (below nests).value; expect s.CloseRound; pure found))
       ((h some).opens v r d.1.0 d.1.1)
       (then_comes Deep (v ∷ more) d.0 (v ∷ more) m (separated s.Comma (below nests).value r) _
-      (separated_comes Deep s.Comma (below nests).value F.value _ 8 (omega arith) ((λ e. absurd (cc)), (λ e. absurd (cc))) (nested_sound nests).value (h some).value
+      (separated_comes Deep s.Comma (below nests).value F.value _ 8 (omega arith) ((λ e. absurd (cc)), (λ e. absurd (cc))) (nested_derives nests).value (h some).value
       more v (left r) [] r d.0 (omega arith) d.1 (ends s.CloseRound d.0 8 d.2.0 (omega arith)) (λ e. let f : s.CloseRound ≡ s.Comma = sym d.2.0 ∙ e in absurd (cc)))
       (then_comes Deep (piece d.0) (after d.0) (v ∷ more) m _ _ (expect_comes Deep s.CloseRound d.0 d.2.0) (refl, d.2.1)))
 
@@ -206,8 +205,8 @@ module _ (Deep : Type 0) (wanted nests : ℕ) (room : Room Deep wanted nests) (h
   first_comes : (t : Unary) (r m : Reading) → g.IsUnary wanted F t r m → 1 ≤ power (symbol m) → Comes Deep t m (unary nests I [] r)
   first_comes t r m d k = subst (λ x. Comes Deep x m (unary nests I [] r)) d.is (operand_comes d.signs d.primary [] r m d.derived k)
 
-  abbrev S : y.Sound (below nests) (nested nests)
-  S = nested_sound nests
+  abbrev S : y.Derives (below nests) (nested nests)
+  S = nested_derives nests
 
   product_comes : (t : Product) (r m : Reading) → g.IsProduct wanted F t r m → 2 ≤ power (symbol m) → Comes Deep t m (product nests I r)
   unfolding product product_rest
@@ -222,10 +221,12 @@ module _ (Deep : Type 0) (wanted nests : ℕ) (room : Room Deep wanted nests) (h
   sum_comes : (t : Sum) (r m : Reading) → g.IsSum wanted F t r m → 3 ≤ power (symbol m) → Comes Deep t m (sum nests I r)
   unfolding sum sum_rest
   sum_comes t r m d k =
-      let more = signed_ends Deep sum_sign sum_token (product nests I) (g.IsProduct wanted F) _ 2 sum_forth no_sum sum_power (omega arith) (y.product_yields nests I (nested nests) S) product_comes d.rest d.derived.0 m d.derived.2 k in
+      let more = signed_ends Deep sum_sign sum_token (product nests I) (g.IsProduct wanted F) _ 2 sum_forth no_sum sum_power (omega arith)
+      (y.product_yields nests I (nested nests) S) product_comes d.rest d.derived.0 m d.derived.2 k in
       then_comes Deep d.first d.derived.0 t m _ _ (product_comes d.first r d.derived.0 d.derived.1 more)
       (then_comes Deep d.rest m t m _ _
-      (signed_comes Deep sum_sign sum_token (product nests I) (g.IsProduct wanted F) _ 2 sum_forth no_sum sum_power (omega arith) (y.product_yields nests I (nested nests) S) product_comes d.rest (left d.derived.0) [] d.derived.0 m (omega arith) d.derived.2 k) (d.is, refl))
+      (signed_comes Deep sum_sign sum_token (product nests I) (g.IsProduct wanted F) _ 2 sum_forth no_sum sum_power (omega arith) (y.product_yields nests I
+      (nested nests) S) product_comes d.rest (left d.derived.0) [] d.derived.0 m (omega arith) d.derived.2 k) (d.is, refl))
 
   compare_comes : (t : Compare) (r m : Reading) → g.IsCompare wanted F t r m → 4 ≤ power (symbol m) → Comes Deep t m (compare nests I r)
   unfolding compare compare_rest
@@ -233,15 +234,18 @@ module _ (Deep : Type 0) (wanted nests : ℕ) (room : Room Deep wanted nests) (h
       let more = signed_ends Deep rel_sign rel_token (sum nests I) (g.IsSum wanted F) _ 3 rel_forth no_rel rel_power (omega arith) (y.sum_yields nests I (nested nests) S) sum_comes d.rest d.derived.0 m d.derived.2 k in
       then_comes Deep d.first d.derived.0 t m _ _ (sum_comes d.first r d.derived.0 d.derived.1 more)
       (then_comes Deep d.rest m t m _ _
-      (signed_comes Deep rel_sign rel_token (sum nests I) (g.IsSum wanted F) _ 3 rel_forth no_rel rel_power (omega arith) (y.sum_yields nests I (nested nests) S) sum_comes d.rest (left d.derived.0) [] d.derived.0 m (omega arith) d.derived.2 k) (d.is, refl))
+      (signed_comes Deep rel_sign rel_token (sum nests I) (g.IsSum wanted F) _ 3 rel_forth no_rel rel_power (omega arith) (y.sum_yields nests I (nested
+      nests) S) sum_comes d.rest (left d.derived.0) [] d.derived.0 m (omega arith) d.derived.2 k) (d.is, refl))
 
   equal_comes : (t : Equal) (r m : Reading) → g.IsEqual wanted F t r m → 5 ≤ power (symbol m) → Comes Deep t m (equal nests I r)
   unfolding equal equal_rest
   equal_comes t r m d k =
-      let more = signed_ends Deep equal_sign equal_token (compare nests I) (g.IsCompare wanted F) _ 4 equal_forth no_equal equal_power (omega arith) (y.compare_yields nests I (nested nests) S) compare_comes d.rest d.derived.0 m d.derived.2 k in
+      let more = signed_ends Deep equal_sign equal_token (compare nests I) (g.IsCompare wanted F) _ 4 equal_forth no_equal equal_power (omega
+      arith) (y.compare_yields nests I (nested nests) S) compare_comes d.rest d.derived.0 m d.derived.2 k in
       then_comes Deep d.first d.derived.0 t m _ _ (compare_comes d.first r d.derived.0 d.derived.1 more)
       (then_comes Deep d.rest m t m _ _
-      (signed_comes Deep equal_sign equal_token (compare nests I) (g.IsCompare wanted F) _ 4 equal_forth no_equal equal_power (omega arith) (y.compare_yields nests I (nested nests) S) compare_comes d.rest (left d.derived.0) [] d.derived.0 m (omega arith) d.derived.2 k) (d.is, refl))
+      (signed_comes Deep equal_sign equal_token (compare nests I) (g.IsCompare wanted F) _ 4 equal_forth no_equal equal_power (omega arith) (y.compare_yields nests I
+      (nested nests) S) compare_comes d.rest (left d.derived.0) [] d.derived.0 m (omega arith) d.derived.2 k) (d.is, refl))
 
   and_comes : (t : And) (r m : Reading) → g.IsAnd wanted F t r m → 6 ≤ power (symbol m) → Comes Deep t m (and_value nests I r)
   unfolding and_value
@@ -323,7 +327,7 @@ module _ (Deep : Type 0) (wanted nests : ℕ) (room : Room Deep wanted nests) (h
     value = value_comes;
     sum = sum_comes;
     operand = operand_comes;
-    opens = λ t r m d e. or_opens d.test r d.derived.0 d.derived.1 e
+    opens = λ t r m d e. or_opens d.test r d.derived.0 d.derived.1 e;
   }
 
 pub nested_full : (Deep : Type 0) (wanted nests : ℕ) → Room Deep wanted nests → 0 < nests → Full Deep (below nests) (nested wanted)

@@ -22,7 +22,7 @@ use Rattle.c_parser.specs.Values.{Rules, separated, equal_sign, rel_sign, sum_si
 use Rattle.c_parser.specs.Grammar.{nested}
 use Rattle.c_parser.proofs.TokenFacts.{is_same}
 use Rattle.c_parser.proofs.ValueYields as y
-use Rattle.c_parser.proofs.ValueYields.{nested_sound}
+use Rattle.c_parser.proofs.ValueYields.{nested_derives}
 use Rattle.c_parser.specs.Prefixes.{later, is_sound, Sound, opens_nest, nests_among}
 use Rattle.c_parser.proofs.Runs.{more_nests, Runs, runs_far, bind, take_next, open_next, choose_next, expect_then, expect_next, pure_runs, refuse_runs, peek_then, position_then, take_then, choose, eat_next, again, loop_runs, signed_runs, separated_runs, alike_far}
 
@@ -87,12 +87,11 @@ pub record Inner (r : Reading) (nests : ℕ) (inner : Rules) : Type 0 where
   pub unary : (signs : List UnarySign) (i : ℕ) → Within r nests i → Runs r (λ x. inner.unary signs) i (inner.unary signs (later i r))
 
 module _ (r : Reading) (nests : ℕ) (h : Inner r nests (below nests)) where
-
   abbrev I : Rules
   I = below nests
 
-  abbrev S : y.Sound (below nests) (nested nests)
-  S = nested_sound nests
+  abbrev S : y.Derives (below nests) (nested nests)
+  S = nested_derives nests
 
   subscript_runs : (i : ℕ) → Before r nests i → symbol (later i r) ≡ s.OpenSquare → Runs r (λ x. subscript nests I) i (subscript nests I (later i r))
   unfolding subscript
@@ -217,26 +216,30 @@ module _ (r : Reading) (nests : ℕ) (h : Inner r nests (below nests)) where
   unfolding product product_rest
   product_runs i d =
       bind r (λ x. unary nests I []) _ i ((unary_runs []) i d) (λ a k ik sound.
-      bind r (λ x. product_rest nests I) _ k (signed_runs r product_sign (unary nests I []) _ (y.first_unary nests I (nested nests) S) product_sound (Before r nests) (λ j x. x.0) (before_on r nests) (unary_runs []) k (before_on r nests i k ik d sound)) (λ l m km on. pure_runs r _ m on))
+      bind r (λ x. product_rest nests I) _ k (signed_runs r product_sign (unary nests I []) _ (y.first_unary nests I (nested nests) S) product_sound (Before r nests) (λ j
+      x. x.0) (before_on r nests) (unary_runs []) k (before_on r nests i k ik d sound)) (λ l m km on. pure_runs r _ m on))
 
   pub sum_runs : (i : ℕ) → Before r nests i → Runs r (λ x. sum nests I) i (sum nests I (later i r))
   unfolding sum sum_rest
   sum_runs i d =
       position_then r (λ x at. product nests I >>= (λ first. sum_rest nests I >>= (λ rest. pure (roll-Sum (record { at = at; first = first; rest = rest }))))) i _ (
       bind r (λ x. product nests I) _ i (product_runs i d) (λ a k ik sound.
-      bind r (λ x. sum_rest nests I) _ k (signed_runs r sum_sign (product nests I) _ (y.product_yields nests I (nested nests) S) sum_sound (Before r nests) (λ j x. x.0) (before_on r nests) product_runs k (before_on r nests i k ik d sound)) (λ l m km on. pure_runs r _ m on)))
+      bind r (λ x. sum_rest nests I) _ k (signed_runs r sum_sign (product nests I) _ (y.product_yields nests I (nested nests) S) sum_sound (Before r nests) (λ j x.
+      x.0) (before_on r nests) product_runs k (before_on r nests i k ik d sound)) (λ l m km on. pure_runs r _ m on)))
 
   pub compare_runs : (i : ℕ) → Before r nests i → Runs r (λ x. compare nests I) i (compare nests I (later i r))
   unfolding compare compare_rest
   compare_runs i d =
       bind r (λ x. sum nests I) _ i (sum_runs i d) (λ a k ik sound.
-      bind r (λ x. compare_rest nests I) _ k (signed_runs r rel_sign (sum nests I) _ (y.sum_yields nests I (nested nests) S) rel_sound (Before r nests) (λ j x. x.0) (before_on r nests) sum_runs k (before_on r nests i k ik d sound)) (λ l m km on. pure_runs r _ m on))
+      bind r (λ x. compare_rest nests I) _ k (signed_runs r rel_sign (sum nests I) _ (y.sum_yields nests I (nested nests) S) rel_sound (Before r nests) (λ j
+      x. x.0) (before_on r nests) sum_runs k (before_on r nests i k ik d sound)) (λ l m km on. pure_runs r _ m on))
 
   pub equal_runs : (i : ℕ) → Before r nests i → Runs r (λ x. equal nests I) i (equal nests I (later i r))
   unfolding equal equal_rest
   equal_runs i d =
       bind r (λ x. compare nests I) _ i (compare_runs i d) (λ a k ik sound.
-      bind r (λ x. equal_rest nests I) _ k (signed_runs r equal_sign (compare nests I) _ (y.compare_yields nests I (nested nests) S) equal_sound (Before r nests) (λ j x. x.0) (before_on r nests) compare_runs k (before_on r nests i k ik d sound)) (λ l m km on. pure_runs r _ m on))
+      bind r (λ x. equal_rest nests I) _ k (signed_runs r equal_sign (compare nests I) _ (y.compare_yields nests I (nested nests) S) equal_sound (Before r nests) (λ j
+      x. x.0) (before_on r nests) compare_runs k (before_on r nests i k ik d sound)) (λ l m km on. pure_runs r _ m on))
 
   and_runs : (i : ℕ) → Before r nests i → Runs r (λ x. and_value nests I) i (and_value nests I (later i r))
   unfolding and_value
@@ -284,12 +287,12 @@ unfolding below
 inner_runs r zero = record {
   value = λ i d. refuse_runs r Value i d.0;
   sum = λ i d. refuse_runs r Sum i d.0;
-  unary = λ signs i d. refuse_runs r Unary i d.0
+  unary = λ signs i d. refuse_runs r Unary i d.0;
 }
 inner_runs r (suc n) =
     let h : Inner r n (below n) = inner_runs r n in
     record {
       value = λ i d. value_runs r n h i (d.0, omega (arith, d.1));
       sum = λ i d. sum_runs r n h i (d.0, omega (arith, d.1));
-      unary = λ signs i d. unary_runs r n h signs i (d.0, omega (arith, d.1))
+      unary = λ signs i d. unary_runs r n h signs i (d.0, omega (arith, d.1));
     }

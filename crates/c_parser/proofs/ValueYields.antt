@@ -60,13 +60,12 @@ abbrev pub Operand : (List UnarySign → Primary → Phrase) → List UnarySign 
 Operand form signs r t m = (more : List UnarySign) × (p : Primary) × (roll-Unary (record { signs = signs ++ more; primary = p }) ≡ t) × form more p r m
 
 -- the rules of one nest more read what its productions derive
-pub record Sound (inner : Rules) (forms : Forms) : Type 0 where
+pub record Derives (inner : Rules) (forms : Forms) : Type 0 where
   pub value : (r : Reading) → Yields r (λ t m. forms.value t r m) (inner.value r)
   pub sum : (r : Reading) → Yields r (λ t m. forms.sum t r m) (inner.sum r)
   pub unary : (signs : List UnarySign) (r : Reading) → Yields r (Operand forms.operand signs r) (inner.unary signs r)
 
-module _ (nests : ℕ) (inner : Rules) (forms : Forms) (h : Sound inner forms) where
-
+module _ (nests : ℕ) (inner : Rules) (forms : Forms) (h : Derives inner forms) where
   pub subscript_takes : (r : Reading) → symbol r ≡ s.OpenSquare → Takes r (λ t m. g.subscript nests forms t r m) (subscript nests inner r)
   unfolding subscript
   subscript_takes r e =
@@ -229,9 +228,9 @@ module _ (nests : ℕ) (inner : Rules) (forms : Forms) (h : Sound inner forms) w
       then_yields m _ _ _ _ (arms_yield m) (λ b n e.
       (omega arith, record { test = a; arms = b; is = refl; derived = (m, d, e) })))
 
-pub nested_sound : (n : ℕ) → Sound (below n) (nested n)
+pub nested_derives : (n : ℕ) → Derives (below n) (nested n)
 unfolding below
-nested_sound zero = record { value = λ r. tt; sum = λ r. tt; unary = λ signs r. tt }
-nested_sound (suc n) =
-    let h : Sound (below n) (nested n) = nested_sound n in
+nested_derives zero = record { value = λ r. tt; sum = λ r. tt; unary = λ signs r. tt }
+nested_derives (suc n) =
+    let h : Derives (below n) (nested n) = nested_derives n in
     record { value = value_yields n (below n) (nested n) h; sum = sum_yields n (below n) (nested n) h; unary = unary_yields n (below n) (nested n) h }

@@ -89,14 +89,14 @@ pub then_takes : {A B : Type 0} (r : Reading) (P : A → Reading → Type 0) (Q 
 then_takes r P Q (Ok y) f h k = narrower r y.1 Q (f y.0 y.1) h.0 (k y.0 y.1 h.1)
 then_takes r P Q (Err e) f h k = tt
 
--- a symbol that is one of a token
-abbrev pub IsToken : Symbol → Type 0
-IsToken k = (k ≡ s.End → ⊥) × (k ≡ s.Bad → ⊥)
+-- the symbol is that of a token
+abbrev pub OfToken : Symbol → Type 0
+OfToken k = (k ≡ s.End → ⊥) × (k ≡ s.Bad → ⊥)
 
-pub take_takes : {B : Type 0} (k : Symbol) (r : Reading) (Q : B → Reading → Type 0) (o : Outcome B) → symbol r ≡ k → IsToken k → Yields (after r) Q o → Takes r Q o
+pub take_takes : {B : Type 0} (k : Symbol) (r : Reading) (Q : B → Reading → Type 0) (o : Outcome B) → symbol r ≡ k → OfToken k → Yields (after r) Q o → Takes r Q o
 take_takes k r Q o e h g = narrower r (after r) Q o (left_less r (λ f. h.0 (sym e ∙ f)) (λ f. h.1 (sym e ∙ f))) g
 
-pub expect_takes : (k : Symbol) (r : Reading) → IsToken k → Takes r (λ p m. word k p r m) (expect k r)
+pub expect_takes : (k : Symbol) (r : Reading) → OfToken k → Takes r (λ p m. word k p r m) (expect k r)
 unfolding expect
 expect_takes k r h = go (sees k r) refl
   where
@@ -117,7 +117,6 @@ opened_takes nests r Q q h = open_takes r Q (nests == 0) _ q (λ e. h (some_nest
 
 module _ {S A : Type 0} (sign : Symbol → Option S) (mark : S → Symbol) (item : Parser A) (form : A → Phrase)
     (back : (k : Symbol) (x : S) → sign k ≡ Some x → k ≡ mark x) (items : (r : Reading) → Yields r (λ a m. form a r m) (item r)) where
-
   -- behind those that were found
   abbrev Signed : Reading → List (S × A) → List (S × A) → Reading → Type 0
   Signed r found all m = (more : List (S × A)) × (found ++ more ≡ all) × signed mark form more r m
@@ -139,7 +138,6 @@ module _ {S A : Type 0} (sign : Symbol → Option S) (mark : S → Symbol) (item
   all_signed n r = yields_so r _ _ _ (signed_yields n [] r) (λ all m k. let P : List (S × A) → Type 0 = λ x. signed mark form x r m in subst P k.1 k.2)
 
 module _ {A : Type 0} (sign : Symbol) (item : Parser A) (form : A → Phrase) (items : (r : Reading) → Yields r (λ a m. form a r m) (item r)) where
-
   abbrev Separated : Reading → List A → List A → Reading → Type 0
   Separated r found all m = (x : A) × (more : List A) × (found ++ x ∷ more ≡ all) × (form x then others sign form more) r m
 

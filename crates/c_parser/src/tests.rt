@@ -73,10 +73,7 @@ fn statements(rt: HostRuntime) {
         ),
         (b"for (i = N; i > 0; i--) ;", Outcome::Nodes(1)),
         (b"{ ; { } }", Outcome::Nodes(1)),
-        (
-            b"if (a) if (b) if (c) ; else ; else ;",
-            Outcome::Nodes(1),
-        ),
+        (b"if (a) if (b) if (c) ; else ; else ;", Outcome::Nodes(1)),
         (
             b"if (a) if (b) ; else ; else ; else ;",
             Outcome::Syntax(1, 31),

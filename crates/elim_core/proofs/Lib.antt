@@ -1,3 +1,4 @@
+mod Checks
 pub mod Tests
 pub mod Quotients
 pub mod AllRows
@@ -17,3 +18,4 @@ pub mod ColumnOrder
 pub mod Reducing
 pub mod Joining
 pub mod MarkLaws
+pub mod Beginnings

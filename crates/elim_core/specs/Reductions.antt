@@ -1,5 +1,5 @@
 -- Rows to work with in place of the rows of a base.
-use Rattle.std.specs.Prelude.{◌≡◌, ◌⊎◌, ℕ, List, [], ◌∷◌, ◌++◌, length, replicate, false, Option, Some, None, ℤ, pos, ◌≤ℤ◌}
+use Rattle.std.specs.Prelude.{◌≡◌, ◌⊎◌, ℕ, List, [], ◌∷◌, ◌++◌, length, take, replicate, false, Option, Some, None, ℤ, pos, ◌≤ℤ◌}
 use Rattle.relation_core.specs.declared.part_rows.PartRow.{PartRow}
 use Rattle.relation_core.specs.Systems.{System, columns}
 use Rattle.relation_core.specs.Points.{MeetsAll, HasPoint}
@@ -31,6 +31,11 @@ Relieved n e before after = (after ≡ before) ⊎ ((is_constant n e ≡ false) 
 -- a working row with zeros for the multipliers of further rows
 abbrev pub widened : ℕ → PartRow → PartRow
 widened count w = record w { entries = w.entries ++ replicate count (pos 0) }
+
+-- a system of the base's shape whose rows begin with the base's
+pub record BeginsWith (system base : System) : Type 0 where
+  pub shape : system.shape ≡ base.shape
+  pub rows : take (length base.rows) system.rows ≡ base.rows
 
 -- what an elimination has found is so: a rational point, or a valid certificate
 abbrev pub Settles : System → Option (List ℤ) → Type 0

@@ -1,10 +1,10 @@
 //! The decision of a system whose rows begin with those of a reduced base.
 
-ghost use Rattle.std.specs.Prelude.{◌≡◌, ◌<◌, ◌≤◌, ◌+◌, ◌^◌, length, take, IfOk, IfErr};
+ghost use Rattle.std.specs.Prelude.{◌≡◌, ◌<◌, ◌≤◌, ◌+◌, ◌^◌, IfOk, IfErr};
 ghost use Rattle.relation_core.specs.Systems.{columns};
 ghost use Rattle.farkas_cert.specs.Certificates.{Valid};
 ghost use Rattle.elim_core.specs.Peaks.{peak, IsRight};
-ghost use Rattle.elim_core.specs.Reductions.{Settles};
+ghost use Rattle.elim_core.specs.Reductions.{BeginsWith, Settles};
 
 use crate::counts::{row_count, variable_count};
 use crate::decisions::decide_by;
@@ -25,8 +25,7 @@ pub fn decide_with<R: Row>(
     shared: &Reduced<R>,
     system: &Part,
 ) -> Result<Verdict, ElimFail>
-    requires shape { system.now.shape ≡ shared.now.shape }
-    requires rows { take (length shared.now.rows) system.now.rows ≡ shared.now.rows }
+    requires { BeginsWith system.now shared.now }
     ensures right { IfOk result (λ verdict. IsRight system.now verdict) }
     ensures overflow { IfErr result (λ fail. fail ≡ ElimFail.Overflow → 2 ^ 127 ≤ (peak system.now).weight) }
     ensures rows { IfErr result (λ fail. fail ≡ ElimFail.TooManyRows → 16384 < (peak system.now).rows) }
@@ -62,8 +61,7 @@ fn go_on<R: Row>(
     shared: &Reduced<R>,
     system: &Part,
 ) -> Result<Option<Certificate>, ElimFail>
-    requires shape { system.now.shape ≡ shared.now.shape }
-    requires rows { take (length shared.now.rows) system.now.rows ≡ shared.now.rows }
+    requires { BeginsWith system.now shared.now }
     ensures { IfOk result (λ found. Settles system.now found) }
 {
     let n = variable_count(system);

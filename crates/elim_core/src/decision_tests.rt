@@ -1,149 +1,169 @@
-//! Decisions of worked systems, over dense rows, and a cross-check of small random systems.
+//! Decisions of worked systems in every way.
 
-use crate::{ElimFail, Verdict, decide, decide_by};
-use farkas_cert::check;
-use relation_core::{Part, RowKind, Shape};
-use row_core::{Coeff, DenseRow};
+use crate::test_systems::{Wanted, answers, answers_after, columns, followed, push};
+use relation_core::RowKind;
 use std::alloc::Global;
 use std::process::Abort;
 use std::test::Fail;
-use suite_base::List;
 
 const MOST: i128 = i128::MAX;
 
-#[derive(Clone, Copy, Debug, PartialEq, Eq)]
-enum Wanted {
-    Point,
-    Empty,
-    Overflow,
-    TooManyRows,
+type Line = (RowKind, &'static [i128]);
+
+// A system of one output and some inputs, whose last row is left out of the base.
+#[derive(Drop)]
+struct Case {
+    inputs: usize,
+    base: &'static [Line],
+    last: Line,
+    wanted: Wanted,
 }
 
-fn coeffs(rt: &impl Abort, alloc: Global, values: &[i128]) -> Result<List<Coeff>, Fail> {
-    let mut list = List::new(alloc);
-    for n in values {
-        list.push(Coeff::new(*n).expect(rt, "a coefficient"))?;
+fn decides(rt: &impl Abort, alloc: Global, case: &Case) -> Result<(), Fail> {
+    let mut base = columns(alloc, 1, case.inputs);
+    for (kind, row) in case.base {
+        push(rt, &mut base, *kind, row)?;
     }
-    Ok(list)
-}
-
-fn push(rt: &impl Abort, part: &mut Part, kind: RowKind, values: &[i128]) -> Result<(), Fail> {
-    let row = coeffs(rt, part.allocator(), values)?;
-    assert_eq!(rt; row.as_slice().len(), part.width());
-    part.push_row(kind, row.as_slice())?;
-    Ok(())
-}
-
-fn columns(alloc: Global, outputs: usize, inputs: usize) -> Part {
-    let outputs = if outputs < 8 { outputs } else { 8 };
-    let inputs = if inputs < 8 { inputs } else { 8 };
-    let shape = Shape {
-        outputs,
-        inputs,
-        locals: 0,
-        parameters: 0,
-    };
-    Part::new(alloc, shape)
-}
-
-fn outcome(
-    rt: &impl Abort,
-    system: &Part,
-    decided: Result<Verdict, ElimFail>,
-) -> Result<Wanted, Fail> {
-    match decided {
-        Ok(Verdict::HasPoint) => Ok(Wanted::Point),
-        Ok(Verdict::Empty(certificate)) => {
-            assert_eq!(rt; check(system, &certificate), Ok(true));
-            Ok(Wanted::Empty)
-        }
-        Err(ElimFail::Overflow) => Ok(Wanted::Overflow),
-        Err(ElimFail::TooManyRows) => Ok(Wanted::TooManyRows),
-        Err(ElimFail::Memory) => panic!(rt; "memory is wanting"),
-    }
-}
-
-fn answers(rt: &impl Abort, system: &Part, wanted: Wanted) -> Result<(), Fail> {
-    let alloc = system.allocator();
-    assert_eq!(rt; outcome(rt, system, decide(alloc, system))?, wanted);
-    let over_rows = decide_by::<DenseRow>(alloc, system);
-    assert_eq!(rt; outcome(rt, system, over_rows)?, wanted);
-    Ok(())
+    let system = followed(rt, &base, case.last.0, case.last.1)?;
+    answers_after(rt, &base, &system, case.wanted)
 }
 
 #[test]
 fn worked_systems(rt: HostRuntime) -> Result<(), Fail> {
-    let one: [(&[(RowKind, &[i128])], Wanted); 7] = [
-        (&[], Wanted::Point),
-        (
-            &[(RowKind::AtLeast, &[1, -1]), (RowKind::AtLeast, &[-1, 0])],
-            Wanted::Empty,
-        ),
-        (&[(RowKind::Equal, &[2, -1])], Wanted::Point),
-        (&[(RowKind::AtLeast, &[0, -1])], Wanted::Empty),
-        (&[(RowKind::Equal, &[0, 5])], Wanted::Empty),
-        (
-            &[(RowKind::AtLeast, &[0, 0]), (RowKind::Equal, &[0, 0])],
-            Wanted::Point,
-        ),
-        (
-            &[(RowKind::AtLeast, &[1, 1]), (RowKind::AtLeast, &[-1, 1])],
-            Wanted::Point,
-        ),
-    ];
-    for (rows, wanted) in one {
-        let mut system = columns(rt.alloc(), 1, 0);
-        for (kind, row) in rows {
-            push(&rt, &mut system, *kind, row)?;
-        }
-        answers(&rt, &system, wanted)?;
-    }
-    let two: [(&[(RowKind, &[i128])], Wanted); 4] = [
-        (
-            &[
-                (RowKind::Equal, &[-1, 2, 0]),
-                (RowKind::AtLeast, &[-1, 2, -1]),
-            ],
-            Wanted::Empty,
-        ),
-        (
-            &[
+    let cases: [Case; 15] = [
+        Case {
+            inputs: 0,
+            base: &[(RowKind::AtLeast, &[1, -1])],
+            last: (RowKind::AtLeast, &[-1, 0]),
+            wanted: Wanted::Empty,
+        },
+        Case {
+            inputs: 0,
+            base: &[(RowKind::AtLeast, &[1, -1])],
+            last: (RowKind::AtLeast, &[-1, 1]),
+            wanted: Wanted::Point,
+        },
+        Case {
+            inputs: 0,
+            base: &[],
+            last: (RowKind::Equal, &[2, -1]),
+            wanted: Wanted::Point,
+        },
+        Case {
+            inputs: 0,
+            base: &[],
+            last: (RowKind::AtLeast, &[0, -1]),
+            wanted: Wanted::Empty,
+        },
+        Case {
+            inputs: 0,
+            base: &[],
+            last: (RowKind::Equal, &[0, 5]),
+            wanted: Wanted::Empty,
+        },
+        Case {
+            inputs: 0,
+            base: &[(RowKind::Equal, &[0, 5])],
+            last: (RowKind::AtLeast, &[1, 0]),
+            wanted: Wanted::Empty,
+        },
+        Case {
+            inputs: 0,
+            base: &[(RowKind::AtLeast, &[0, 0])],
+            last: (RowKind::Equal, &[0, 0]),
+            wanted: Wanted::Point,
+        },
+        Case {
+            inputs: 1,
+            base: &[(RowKind::Equal, &[-1, 2, 0])],
+            last: (RowKind::AtLeast, &[-1, 2, -1]),
+            wanted: Wanted::Empty,
+        },
+        Case {
+            inputs: 1,
+            base: &[(RowKind::Equal, &[MOST, 1, 0])],
+            last: (RowKind::AtLeast, &[1, MOST, -1]),
+            wanted: Wanted::Overflow,
+        },
+        Case {
+            inputs: 1,
+            base: &[
                 (RowKind::Equal, &[MOST, 1, 0]),
                 (RowKind::AtLeast, &[1, MOST, -1]),
             ],
-            Wanted::Overflow,
-        ),
-        (
-            &[
+            last: (RowKind::AtLeast, &[1, 0, 0]),
+            wanted: Wanted::Overflow,
+        },
+        Case {
+            inputs: 1,
+            base: &[(RowKind::Equal, &[1, 1, -4])],
+            last: (RowKind::Equal, &[1, -1, -1]),
+            wanted: Wanted::Point,
+        },
+        Case {
+            inputs: 1,
+            base: &[(RowKind::Equal, &[1, 1, -4])],
+            last: (RowKind::Equal, &[2, 2, -9]),
+            wanted: Wanted::Empty,
+        },
+        Case {
+            inputs: 1,
+            base: &[
                 (RowKind::Equal, &[1, 1, -4]),
-                (RowKind::Equal, &[1, -1, -1]),
+                (RowKind::Equal, &[1, -1, 0]),
+                (RowKind::AtLeast, &[1, 1, 0]),
             ],
-            Wanted::Point,
-        ),
-        (
-            &[(RowKind::Equal, &[1, 1, -4]), (RowKind::Equal, &[2, 2, -9])],
-            Wanted::Empty,
-        ),
+            last: (RowKind::AtLeast, &[-1, 0, 1]),
+            wanted: Wanted::Empty,
+        },
+        Case {
+            inputs: 1,
+            base: &[
+                (RowKind::Equal, &[1, -1, 0]),
+                (RowKind::AtLeast, &[1, 0, 0]),
+                (RowKind::AtLeast, &[0, 1, 0]),
+            ],
+            last: (RowKind::AtLeast, &[0, -1, 9]),
+            wanted: Wanted::Point,
+        },
+        Case {
+            inputs: 2,
+            base: &[
+                (RowKind::AtLeast, &[1, 1, 0, 0]),
+                (RowKind::Equal, &[0, 1, -1, 2]),
+                (RowKind::Equal, &[1, 0, 1, 3]),
+            ],
+            last: (RowKind::AtLeast, &[0, -1, 1, -3]),
+            wanted: Wanted::Empty,
+        },
     ];
-    for (rows, wanted) in two {
-        let mut system = columns(rt.alloc(), 1, 1);
-        for (kind, row) in rows {
-            push(&rt, &mut system, *kind, row)?;
-        }
-        answers(&rt, &system, wanted)?;
+    for case in &cases {
+        decides(&rt, rt.alloc(), case)?;
     }
+    Ok(())
+}
+
+#[test]
+fn systems_without_rows(rt: HostRuntime) -> Result<(), Fail> {
     let bare = columns(rt.alloc(), 0, 0);
-    answers(&rt, &bare, Wanted::Point)
+    answers(&rt, &bare, Wanted::Point)?;
+    let free = columns(rt.alloc(), 1, 1);
+    answers(&rt, &free, Wanted::Point)?;
+    let none = followed(&rt, &bare, RowKind::Equal, &[0])?;
+    answers_after(&rt, &bare, &none, Wanted::Point)?;
+    let never = followed(&rt, &none, RowKind::AtLeast, &[-1])?;
+    answers_after(&rt, &none, &never, Wanted::Empty)
 }
 
 #[test]
 fn many_bounds_of_one_column(rt: HostRuntime) -> Result<(), Fail> {
-    let mut system = columns(rt.alloc(), 1, 1);
+    let mut base = columns(rt.alloc(), 1, 1);
     for k in 1..130u8 {
-        push(&rt, &mut system, RowKind::AtLeast, &[i128::from(k), 1, 0])?;
+        push(&rt, &mut base, RowKind::AtLeast, &[i128::from(k), 1, 0])?;
     }
-    for k in 1..129u8 {
-        push(&rt, &mut system, RowKind::AtLeast, &[i128::from(k), -1, 0])?;
+    for k in 1..128u8 {
+        push(&rt, &mut base, RowKind::AtLeast, &[i128::from(k), -1, 0])?;
     }
-    answers(&rt, &system, Wanted::TooManyRows)
+    let system = followed(&rt, &base, RowKind::AtLeast, &[128, -1, 0])?;
+    answers_after(&rt, &base, &system, Wanted::TooManyRows)
 }

@@ -13,9 +13,15 @@ mod phases;
 mod projections;
 mod reductions;
 mod refutations;
+#[cfg(test)]
+mod search_tests;
+#[cfg(test)]
+mod sharing_tests;
 mod signs;
 mod starts;
 mod substitutions;
+#[cfg(test)]
+mod test_systems;
 mod tidying;
 mod verdicts;
 mod working_rows;

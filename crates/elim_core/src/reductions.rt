@@ -1,9 +1,9 @@
 //! The reduction of rows that several systems share: their equalities are substituted once.
 
-ghost use Rattle.std.specs.Prelude.{◌≡◌, ◌<◌, ◌≤◌, ◌+◌, length, map, take, IfOk};
+ghost use Rattle.std.specs.Prelude.{◌≡◌, ◌<◌, ◌≤◌, ◌+◌, length, map, IfOk};
 ghost use Rattle.relation_core.specs.Systems.{columns};
 ghost use Rattle.elim_core.specs.RowLists.{AllRows, Wide};
-ghost use Rattle.elim_core.specs.Reductions.{IsReduction, Reduces, Relieved, widened};
+ghost use Rattle.elim_core.specs.Reductions.{BeginsWith, IsReduction, Reduces, Relieved, widened};
 
 use crate::counts::{row_count, variable_count};
 use crate::starts::{start, start_from};
@@ -40,8 +40,7 @@ impl<R: Row> Reduced<R> {
     /// The working rows of a system whose rows begin with the base's: those that the base is reduced
     /// to, and the further rows of the system.
     pub(crate) fn join(&self, alloc: Global, system: &Part) -> Result<Vec<WorkingRow<R>>, NoMemory>
-        requires shape { system.now.shape ≡ self.now.shape }
-        requires rows { take (length self.now.rows) system.now.rows ≡ self.now.rows }
+        requires { BeginsWith system.now self.now }
         ensures { IfOk result (λ rows. IsReduction (columns system.now.shape) system.now.rows rows.items) }
     {
         let known = self.base.row_count();

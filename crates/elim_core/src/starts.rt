@@ -49,12 +49,7 @@ fn starting_cells(alloc: Global, system: &Part, i: usize) -> Result<Vec<Coeff>, 
 }
 
 // The entries of row `i`, with room for `spare` more.
-fn row_entries(
-    alloc: Global,
-    system: &Part,
-    i: usize,
-    spare: usize,
-) -> Result<Vec<Coeff>, NoMemory>
+fn row_entries(alloc: Global, system: &Part, i: usize, spare: usize) -> Result<Vec<Coeff>, NoMemory>
     requires { i < length system.now.rows }
     ensures { IfOk result (λ cells. cells.items ≡ (row_at system.now.rows i).entries) }
 {

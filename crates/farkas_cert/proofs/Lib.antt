@@ -1,2 +1,3 @@
+mod Samples
 pub mod Laws
 pub mod TextLaws

@@ -1,5 +1,5 @@
 -- What is assembled of the pieces of a text.
-use Rattle.std.proofs.Common.{◌≡◌, ℕ, List, sym, ap, ◌∙◌, None, Option, Result, Ok, Err, subst}
+use Rattle.std.proofs.Common.{◌≡◌, ℕ, List, sym, ap, ◌∙◌, None, Result, Ok, Err, subst}
 use Rattle.std.specs.Prelude.{IfOk, OnOk, IfErr}
 use Rattle.suite_base.specs.declared.refusals.Fail.{Fail}
 use Rattle.suite_base.specs.declared.refusals.Fail.TheVariants as fail

@@ -53,9 +53,6 @@ first_line rest = elim rest.lines [
   | line ∷ lines ↦ Ok (record { number = rest.number; bytes = line }, record { number = rest.number + 1; lines = lines })
 ]
 
-unfoldable pub any_line : Reader Line
-any_line = λ rest. first_line rest
-
 -- the next line that says something
 unfoldable pub said_line : Reader Line
 said_line = λ rest. first_line (behind_silent rest.number rest.lines)

@@ -11,7 +11,7 @@ use crate::extension_names::{is_opening, opened_name};
 use crate::kept_lines::kept;
 use crate::line_rules::{closing, count_line, literal, text_of};
 use crate::line_words::LineWords;
-use crate::number_words::coeff_from;
+use crate::number_words::number_from;
 use crate::text_lines::TextLine;
 use row_core::Coeff;
 use scop_core::Extension;
@@ -32,7 +32,7 @@ fn array_of(alloc: Global, line: &TextLine<'_>) -> Result<(Coeff, Text), Fail>
     if words.next().is_some() {
         return Err(bad_line(line.number()));
     }
-    let identifier = coeff_from(line, &identifier, 1)?;
+    let identifier = number_from(line, &identifier, 1)?;
     let name = text_of(alloc, name.bytes())?;
     Ok((identifier, name))
 }

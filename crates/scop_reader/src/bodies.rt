@@ -1,6 +1,5 @@
 //! The body of a statement: its text and the names of its iterators.
 
-ghost use Rattle.std.specs.Prelude.{◌≡◌, IfOk};
 ghost use Rattle.scop_reader.specs.Reading.{Reads};
 ghost use Rattle.scop_reader.specs.Rules as spec;
 

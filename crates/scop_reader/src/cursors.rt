@@ -1,6 +1,6 @@
 //! A cursor over the lines of a text, which knows the number of the next line.
 
-ghost use Rattle.std.specs.Prelude.{◌≡◌, ◌<◌, ◌≤◌, ◌-◌, ◌^◌, length};
+ghost use Rattle.std.specs.Prelude.{◌≡◌, ◌<◌, ◌-◌, ◌^◌, length};
 ghost use Rattle.std.specs.Str.{bytes_eq};
 ghost use Rattle.suite_base.specs.Lines.{lines};
 ghost use Rattle.suite_base.specs.Words.{content};

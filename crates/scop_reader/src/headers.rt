@@ -1,8 +1,8 @@
 //! The line of six numbers that begins a part.
 
-ghost use Rattle.std.specs.Prelude.{◌≡◌, ◌<◌, ◌≤◌, ◌+◌, ◌==◌, ◌^◌, None, IfOk, OnOk, length};
+ghost use Rattle.std.specs.Prelude.{◌≡◌, ◌<◌, ◌+◌, ◌==◌, IfOk, OnOk, length};
 ghost use Rattle.relation_core.specs.Systems.{HasLimits, columns, width};
-ghost use Rattle.scop_reader.specs.Lines.{words_of, Word};
+ghost use Rattle.scop_reader.specs.Lines.{words_of};
 ghost use Rattle.scop_reader.specs.Reading.{Reads, Gives, mapped, numbers_in, is_count};
 ghost use Rattle.scop_reader.specs.Rules as spec;
 ghost use Rattle.scop_reader.specs.Headers.{TakesCount, IsSmall, IsSmallRole};
@@ -81,7 +81,7 @@ fn next_count(line: &TextLine<'_>, words: &mut LineWords<'_>) -> Result<u128, Fa
     ensures size { OnOk result (length words.new + 1 ≡ length words.old) }
 {
     match words.next() {
-        Some(word) => Ok(number_from(line, &word, 0)?.unsigned_abs()),
+        Some(word) => Ok(number_from(line, &word, 0)?.value().unsigned_abs()),
         None => Ok(0),
     }
 }

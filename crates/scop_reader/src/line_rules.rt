@@ -104,7 +104,7 @@ pub fn count_line<'a>(cursor: &mut Cursor<'a>, least: u8) -> Result<(TextLine<'a
         return Err(bad_line(line.number()));
     };
     let number = number_from(&line, &word, least)?;
-    Ok((line, number.unsigned_abs()))
+    Ok((line, number.value().unsigned_abs()))
 }
 
 /// The word of a line that has one word.

@@ -25,12 +25,14 @@ impl<'a> Model for TextWord<'a> {
 }
 
 impl<'a> TextWord<'a> {
+    /// The column of the word's first byte, from 1.
     pub fn column(&self) -> u32
         ensures { result ≡ self.now.column }
     {
         self.column
     }
 
+    /// The word.
     pub fn bytes(&self) -> &'a [u8]
         ensures { result.now ≡ self.now.bytes }
     {

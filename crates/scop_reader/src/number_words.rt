@@ -35,18 +35,7 @@ pub fn any_number(line: &TextLine<'_>, word: &TextWord<'_>) -> Result<Coeff, Fai
 }
 
 /// A number that is at least `least`.
-pub fn number_from(line: &TextLine<'_>, word: &TextWord<'_>, least: u8) -> Result<i128, Fail>
-    ensures { Gives (number_in line.now (at_least least) word.now (number_read word.now.bytes)) result }
-{
-    match read_number(word.bytes()) {
-        NumberRead::Value(n) if least as i128 <= n => Ok(n),
-        NumberRead::TooLarge => Err(too_large(line, word)),
-        _ => Err(bad_line(line.number())),
-    }
-}
-
-/// A number that is at least `least`, as a coefficient.
-pub fn coeff_from(line: &TextLine<'_>, word: &TextWord<'_>, least: u8) -> Result<Coeff, Fail>
+pub fn number_from(line: &TextLine<'_>, word: &TextWord<'_>, least: u8) -> Result<Coeff, Fail>
     ensures { Gives (number_in line.now (at_least least) word.now (number_read word.now.bytes)) result }
 {
     match read_number(word.bytes()) {

@@ -1,6 +1,6 @@
 //! Relations: a type word, the number of parts where it is written, the parts.
 
-ghost use Rattle.std.specs.Prelude.{◌≡◌, ◌≤◌, [], ◌∷◌, ◌++◌, OnOk, OnErr, IfErr, IfOk};
+ghost use Rattle.std.specs.Prelude.{◌≡◌, ◌≤◌, [], ◌∷◌, ◌++◌, OnOk, IfErr};
 ghost use Rattle.scop_reader.specs.Reading.{Reads};
 ghost use Rattle.scop_reader.specs.Rules as spec;
 ghost use Rattle.scop_reader.specs.Headers.{IsSmallRole};

@@ -1,6 +1,6 @@
 //! The whole of a text.
 
-ghost use Rattle.std.specs.Prelude.{◌≡◌, ◌<◌, ◌-◌, ◌^◌, length};
+ghost use Rattle.std.specs.Prelude.{◌<◌, ◌-◌, ◌^◌, length};
 ghost use Rattle.scop_reader.specs.Reading.{Gives, Reads};
 ghost use Rattle.scop_reader.specs.Rules as spec;
 ghost use Rattle.scop_reader.specs.Texts.{pieces_in};

@@ -1,6 +1,6 @@
 //! Statements: their relations, their extensions.
 
-ghost use Rattle.std.specs.Prelude.{◌≡◌, ◌≤◌, [], IfOk};
+ghost use Rattle.std.specs.Prelude.{◌≤◌, [], IfOk};
 ghost use Rattle.scop_core.specs.Printable.{body_name};
 ghost use Rattle.scop_reader.specs.Reading.{Reads, ReadsTo};
 ghost use Rattle.scop_reader.specs.Rules as spec;

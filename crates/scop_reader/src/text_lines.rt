@@ -26,6 +26,7 @@ impl<'a> Model for TextLine<'a> {
 }
 
 impl<'a> TextLine<'a> {
+    /// The line of these bytes and this number.
     pub fn new(number: u32, bytes: &'a [u8]) -> TextLine<'a>
         requires { length bytes.now < 2 ^ 32 }
         ensures { result ≡ record { number = number; bytes = bytes.now } }
@@ -33,12 +34,14 @@ impl<'a> TextLine<'a> {
         TextLine { number, bytes }
     }
 
+    /// The number of the line, from 1.
     pub fn number(&self) -> u32
         ensures { result ≡ self.now.number }
     {
         self.number
     }
 
+    /// The line as it stands, without its newline.
     pub fn bytes(&self) -> &'a [u8]
         ensures value { result.now ≡ self.now.bytes }
         ensures small { length result.now < 2 ^ 32 }

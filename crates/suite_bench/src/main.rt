@@ -1,18 +1,21 @@
-//! Times of the certificate check and of the elimination, on standard error. Standard output says
-//! only that the runs ended, so that it is always the same.
+//! Times of the certificate check, of the elimination, and of lexing and parsing C, on standard error.
+//! Standard output says only that the runs ended, so that it is always the same.
 #![tactic(auto)]
 
 mod dice;
 mod nests;
+mod regions;
 mod rows;
 mod runs;
 mod systems;
 mod times;
 
 use nests::product;
+use regions::{assignments, statement_count, token_count};
 use runs::{level_times, nest_totals};
 use std::process::Abort;
 use std::test::Fail;
+use std::time::Instant;
 use times::{check_time, reduction_time};
 
 const ROUNDS: u32 = 1_000;
@@ -29,7 +32,11 @@ fn main(rt: HostRuntime) -> Result<(), Fail> {
             let t = level_times(&rt, rt.alloc(), &base, level, ROUNDS)?;
             eprintln!(rt;
                 "{pair} level {}: decide {} ns, decide_by {} ns, decide_with {} ns, {}",
-                level + 1, t.dense, t.sparse, t.shared, t.end.words()
+                level + 1,
+                t.dense,
+                t.sparse,
+                t.shared,
+                t.end.words()
             )?;
         }
     }
@@ -37,12 +44,24 @@ fn main(rt: HostRuntime) -> Result<(), Fail> {
     let t = nest_totals(&rt, rt.alloc(), 1_000)?;
     eprintln!(rt;
         "1,000 nests: decide {} us, decide_by {} us, reduce {} us, decide_with {} us",
-        t.dense / 1_000, t.sparse / 1_000, t.reduction / 1_000, t.shared / 1_000
+        t.dense / 1_000,
+        t.sparse / 1_000,
+        t.reduction / 1_000,
+        t.shared / 1_000
     )?;
     eprintln!(rt;
         "1,000 nests: {} with a point, {} empty, {} past a limit",
         t.points, t.empty, t.limits
     )?;
+    let text = assignments(rt.alloc())?;
+    let start = Instant::now(&rt)?;
+    let tokens = token_count(&text);
+    let spent = start.elapsed(&rt)?.as_micros();
+    eprintln!(rt; "lexing of 16 MiB of assignments, {tokens} tokens: {spent} us")?;
+    let start = Instant::now(&rt)?;
+    let statements = statement_count(rt.alloc(), &text);
+    let spent = start.elapsed(&rt)?.as_micros();
+    eprintln!(rt; "lexing and parsing of the same, {statements} statements: {spent} us")?;
     println!(rt; "the runs ended")?;
     Ok(())
 }

@@ -2,7 +2,7 @@
 //! are made from fixed numbers.
 
 ghost use Rattle.std.specs.Prelude.{◌≡◌, ◌<◌, ◌≤◌, IfOk};
-ghost use Rattle.suite_bench.specs.Systems.{Follows};
+ghost use Rattle.elim_core.specs.Reductions.{BeginsWith};
 
 use crate::dice::Dice;
 use crate::rows::{Term, at, copied, push};
@@ -55,7 +55,7 @@ pub fn nest(alloc: Global, seed: u64) -> Result<Part, NoMemory> {
 /// The base with the rows of a level: the outer loops are equal, and the source's loop is less.
 pub fn at_level(alloc: Global, base: &Part, level: usize) -> Result<Part, NoMemory>
     requires { level < LOOPS }
-    ensures { IfOk result (λ system. Follows base.now system) }
+    ensures { IfOk result (λ system. BeginsWith system base.now) }
 {
     let mut system = copied(alloc, base)?;
     for d in 0..level {
@@ -112,7 +112,10 @@ fn outer(dice: &mut Dice, d: usize, factor: i16) -> Term {
 // One of the parameters.
 fn limit(dice: &mut Dice, places: &Places) -> Term {
     if places.parameters < places.constant {
-        at(places.parameters + dice.below(places.constant - places.parameters), 1)
+        at(
+            places.parameters + dice.below(places.constant - places.parameters),
+            1,
+        )
     } else {
         at(places.constant, 100)
     }

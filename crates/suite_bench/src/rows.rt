@@ -2,7 +2,7 @@
 
 ghost use Rattle.std.specs.Prelude.{◌≡◌, ◌++◌, ◌∷◌, [], length, take, IfOk, OnOk};
 ghost use Rattle.relation_core.specs.Systems.{width};
-ghost use Rattle.suite_bench.specs.Systems.{Follows};
+ghost use Rattle.elim_core.specs.Reductions.{BeginsWith};
 
 use relation_core::{Part, RowKind};
 use row_core::Coeff;
@@ -23,7 +23,7 @@ pub fn at(column: usize, factor: i16) -> Term {
 
 /// Appends the row that is the sum of these terms. What the system begins with stays.
 pub fn push(system: &mut Part, kind: RowKind, terms: &[Term]) -> Result<(), NoMemory>
-    ensures { OnOk result (Follows system.old system.new) }
+    ensures { OnOk result (BeginsWith system.new system.old) }
 {
     let mut row = Vec::new(system.allocator());
     for k in 0..system.width() {

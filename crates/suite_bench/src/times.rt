@@ -1,7 +1,7 @@
 //! Times of single calls, in nanoseconds.
 
 ghost use Rattle.std.specs.Prelude.{◌<◌, ◌≡◌, length, take};
-ghost use Rattle.suite_bench.specs.Systems.{Follows};
+ghost use Rattle.elim_core.specs.Reductions.{BeginsWith};
 
 use crate::systems::{ones, wide_system};
 use elim_core::{Reduced, Verdict, decide, decide_by, decide_with, reduce};
@@ -107,7 +107,7 @@ pub fn decision_times(
     rounds: u32,
 ) -> Result<Times, Fail>
     requires rounds { 0 < rounds }
-    requires follows { Follows base.now system.now }
+    requires begins { BeginsWith system.now base.now }
 {
     Ok(Times {
         dense: dense_time(clock, alloc, system, rounds)?,
@@ -145,7 +145,7 @@ fn shared_time(
     rounds: u32,
 ) -> Result<u128, Fail>
     requires rounds { 0 < rounds }
-    requires follows { Follows base.now system.now }
+    requires begins { BeginsWith system.now base.now }
 {
     let start = Instant::now(clock)?;
     for _ in 0..rounds {

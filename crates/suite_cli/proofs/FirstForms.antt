@@ -1,9 +1,9 @@
-use Rattle.std.proofs.Common.{◌≡◌, ℕ, Bool, true, false, ◌&&◌, List, [], ◌∷◌, ◌++◌, length, take, drop, refl, ap, sym, ◌∙◌, Option, Some, None, IsSomeAnd, subst, ◌≢◌}
+use Rattle.std.proofs.Common.{◌≡◌, ℕ, true, List, [], ◌∷◌, ◌++◌, length, take, drop, refl, ap, sym, ◌∙◌, Option, Some, None, IsSomeAnd, subst, ◌≢◌}
 use Rattle.std.specs.Prelude.{codes}
 use Rattle.std.proofs.Math.Seq.{drop-append_seam}
 use Rattle.std.specs.List.{list_all, prefix_len}
 use Rattle.suite_base.specs.Numbers.{is_digit, are_digits, all_digits}
-use Rattle.suite_cli.specs.Names.{is_name_byte, is_name, begins_with_letter, is_free_name, is_short_number, has_leading_zero}
+use Rattle.suite_cli.specs.Names.{is_name_byte, begins_with_letter, is_free_name, is_short_number}
 use Rattle.suite_cli.specs.FirstForm.{IsHead, IsAssignment, IsFirstForm, LoopWords, frame_of, content_lines}
 use Rattle.suite_cli.proofs.TextCuts.{prefix_whole, and_first, and_second}
 

@@ -1,5 +1,5 @@
 -- The names, the numbers and the assignment of one loop can be printed.
-use Rattle.std.proofs.Common.{◌≡◌, ◌⊎◌, inl, inr, ℕ, ◌≤◌, Bool, true, false, ◌&&◌, ◌||◌, ◌==◌, not, nat_le, List, [], ◌∷◌, ◌++◌, refl, ap, sym, ◌∙◌, subst, arith}
+use Rattle.std.proofs.Common.{◌≡◌, ◌⊎◌, inl, inr, ℕ, ◌≤◌, Bool, true, false, ◌&&◌, ◌||◌, ◌==◌, not, nat_le, List, [], ◌∷◌, ◌++◌, refl, ap, sym, ◌∙◌, arith}
 use Rattle.std.proofs.lemmas.Bool.Decides.{nat_tests}
 use Rattle.std.proofs.lemmas.List.{reverse-append}
 use Rattle.std.proofs.lemmas.Slice.Eq.{bytes_eq-Decides}
@@ -8,8 +8,8 @@ use Rattle.std.specs.List.{list_all}
 use Rattle.std.specs.Str.{bytes_eq}
 use Rattle.suite_base.specs.Lines.{is_blank}
 use Rattle.suite_base.specs.Words.{begins_word, unbroken}
-use Rattle.suite_base.specs.Numbers.{is_digit, all_digits, are_digits}
-use Rattle.scop_core.specs.Printable.{has_no, is_plain, is_name, is_body_line, end_line, body_name}
+use Rattle.suite_base.specs.Numbers.{is_digit, all_digits}
+use Rattle.scop_core.specs.Printable.{has_no, is_name, is_body_line, end_line, body_name}
 use Rattle.suite_cli.specs.Names.{is_letter, is_name_byte, begins_with_letter, is_free_name, is_short_number}
 use Rattle.suite_cli.specs.FirstForm.{assignment_text}
 use Rattle.suite_cli.proofs.TextCuts.{and_first, and_second}
@@ -26,11 +26,11 @@ either false b h = inr h
 high_letter : (b : ℕ) → is_letter b ≡ true → nat_le 36 b ≡ true
 high_letter b h =
     elim (either (nat_le 65 b && nat_le b 90 || nat_le 97 b && nat_le b 122) (b == 95) h) [
-      inl l ↦ elim (either (nat_le 65 b && nat_le b 90) (nat_le 97 b && nat_le b 122) l) [
-        inl u ↦ let e : nat_le 65 b ≡ true = and_first _ _ u in grind (arith, nat_tests)
-      | inr u ↦ let e : nat_le 97 b ≡ true = and_first _ _ u in grind (arith, nat_tests)
+      | inl l ↦ elim (either (nat_le 65 b && nat_le b 90) (nat_le 97 b && nat_le b 122) l) [
+        | inl u ↦ let e : nat_le 65 b ≡ true = and_first _ _ u in grind (arith, nat_tests)
+        | inr u ↦ let e : nat_le 97 b ≡ true = and_first _ _ u in grind (arith, nat_tests)
       ]
-    | inr l ↦ grind (arith, nat_tests)
+      | inr l ↦ grind (arith, nat_tests)
     ]
 
 high_digit : (b : ℕ) → is_digit b ≡ true → nat_le 36 b ≡ true

@@ -1,18 +1,18 @@
 -- What a run tells is what its outcome asks.
-use Rattle.std.proofs.Common.{◌≡◌, ◌⊎◌, inl, inr, ℕ, ◌<◌, ◌≤◌, Bool, true, false, List, [], ◌∷◌, ◌++◌, Option, Some, None, IfSome, IsSomeAnd, Result, Ok, Err, OnOk, OnErr, length, refl, ap, sym, ◌∙◌, subst, arith}
+use Rattle.std.proofs.Common.{◌≡◌, ◌⊎◌, inl, inr, ℕ, ◌<◌, ◌≤◌, List, [], ◌∷◌, ◌++◌, Option, Some, None, IfSome, IsSomeAnd, Result, Ok, Err, OnOk, OnErr, length, refl, ap, ◌∙◌, subst, arith}
 use Rattle.std.proofs.lemmas.List.{append-nil}
-use Rattle.suite_base.specs.Outside.{HasFault, IsMissing, Took, Under, Wrote, WrotePart, bytes_under}
+use Rattle.suite_base.specs.Outside.{IsMissing, Under, Wrote, WrotePart}
 use Rattle.suite_base.specs.declared.reading.TheConstants.{MAX_INPUT}
 use Rattle.suite_base.specs.declared.refusals.Refusal.{Refusal}
-use Rattle.suite_base.specs.declared.refusals.Refusal.TheVariants.{TooLong, NoRegion, OutsideFirstPath}
+use Rattle.suite_base.specs.declared.refusals.Refusal.TheVariants.{NoRegion, OutsideFirstPath}
 use Rattle.scop_core.specs.ScopData.{ScopData}
 use Rattle.scop_core.specs.Layouts.{layout}
-use Rattle.scop_reader.specs.Texts.{IsScopText, fault}
+use Rattle.scop_reader.specs.Texts.{fault}
 use Rattle.clan_extract.proofs.OneLoops.{one_loop_means, one_loop_names}
 use Rattle.suite_cli.specs.declared.outcomes.Outcome.{Outcome}
 use Rattle.suite_cli.specs.declared.outcomes.Outcome.TheVariants.{Done, Refused, Usage, ReadFault, WriteFault, Memory}
-use Rattle.suite_cli.specs.Answers.{Answers, CommandAnswers, Completes, IsComplete, IsLoopText, IsRefused, IsTooLong, NamedIn, ReadWhole, RefusalCause, Refuses, Reported, Takes, Told, Translates, World, Writes, WritesPart, opening_of, reading_of, scop_of, writing_of}
-use Rattle.suite_cli.specs.Commands.{Command, Clan, Scop, Words, file_of, is_input}
+use Rattle.suite_cli.specs.Answers.{Answers, CommandAnswers, Completes, IsLoopText, RefusalCause, Refuses, Reported, Takes, Told, Translates, World, opening_of, reading_of, scop_of, writing_of}
+use Rattle.suite_cli.specs.Commands.{Command, Clan, Scop, Words, file_of}
 use Rattle.suite_cli.specs.FirstForm.{AreWords, IsFirstForm, IsHead, IsAssignment, IsRefusal, LoopWords, content_lines, frame_of, loop_of}
 use Rattle.suite_cli.specs.Messages.{message}
 use Rattle.suite_cli.specs.Reads.{FaultCause, Faults, Faulty, Holds, IsReadFaulty, Named, Tells}

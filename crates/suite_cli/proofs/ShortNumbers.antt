@@ -1,8 +1,8 @@
-use Rattle.std.proofs.Common.{◌≡◌, ℕ, zero, suc, ◌+◌, ◌-◌, ◌*◌, ◌^◌, ◌<◌, ◌≤◌, Bool, true, false, ◌&&◌, not, ◌==◌, nat_le, nat_lt, List, [], ◌∷◌, length, pos, unsigned_abs, refl, ap, sym, ◌∙◌, arith}
+use Rattle.std.proofs.Common.{◌≡◌, ℕ, zero, suc, ◌+◌, ◌-◌, ◌*◌, ◌^◌, ◌<◌, ◌≤◌, true, false, ◌==◌, nat_le, nat_lt, List, [], ◌∷◌, length, pos, unsigned_abs, refl, arith}
 use Rattle.std.proofs.lemmas.Bool.Decides.{nat_tests}
 use Rattle.suite_base.specs.Numbers.{is_digit, all_digits, are_digits, digits_after, number_read}
 use Rattle.suite_base.specs.declared.numbers.NumberRead.TheVariants.{Value}
-use Rattle.suite_cli.specs.Names.{is_short_number, has_leading_zero}
+use Rattle.suite_cli.specs.Names.{is_short_number}
 use Rattle.suite_cli.proofs.TextCuts.{and_first, and_second}
 
 -- the greatest number that k more digits can write behind b

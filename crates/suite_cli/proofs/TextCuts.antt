@@ -1,7 +1,7 @@
-use Rattle.std.proofs.Common.{◌≡◌, ℕ, Bool, true, false, ◌&&◌, List, [], ◌∷◌, ◌++◌, ◌+◌, ◌<◌, ◌≤◌, ◌⊎◌, inl, inr, length, take, drop, get_or, refl, ap, sym, ◌∙◌, suc, arith, cond, ◌↔◌, IsTrue, length-append, add-one, rules}
+use Rattle.std.proofs.Common.{◌≡◌, ℕ, Bool, true, false, ◌&&◌, List, [], ◌∷◌, ◌++◌, ◌+◌, ◌<◌, length, take, drop, get_or, refl, ap, sym, ◌∙◌, suc, arith, ◌↔◌, IsTrue, length-append, add-one, rules}
 use Rattle.std.proofs.lemmas.List.{take-append-drop, append_cancel_left}
 use Rattle.std.proofs.lemmas.Slice.Eq.{bytes_eq-Decides}
-use Rattle.std.proofs.Math.Seq.{take-append_seam, drop-append_seam, drop-cons}
+use Rattle.std.proofs.Math.Seq.{take-append_seam, drop-cons}
 use Rattle.std.specs.List.{list_all, prefix_len, flat_map}
 use Rattle.std.specs.Str.{bytes_eq}
 

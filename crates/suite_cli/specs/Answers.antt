@@ -1,6 +1,6 @@
 -- What each outcome of a run tells of what was read and written.
 use Rattle.std.specs.Prelude.{◌≡◌, ◌⊎◌, ℕ, ◌<◌, ◌≤◌, List, Option, length, Some, true}
-use Rattle.suite_base.specs.Outside.{HasFault, Took, Wrote, WrotePart}
+use Rattle.suite_base.specs.Outside.{Took, Wrote, WrotePart}
 use Rattle.suite_base.specs.declared.reading.TheConstants.{MAX_INPUT}
 use Rattle.suite_base.specs.declared.refusals.Fail.{Fail}
 use Rattle.suite_base.specs.declared.refusals.Fail.TheVariants as fail

@@ -1,5 +1,5 @@
 -- The text of one loop between two pragma lines: the only one that this version of `clan` reads.
-use Rattle.std.specs.Prelude.{◌≡◌, ◌≢◌, ℕ, Bool, true, not, List, [], ◌∷◌, ◌++◌, cond, codes, Option, Some, None, IsSomeAnd, ◌&&◌}
+use Rattle.std.specs.Prelude.{◌≡◌, ◌≢◌, ℕ, Bool, true, List, [], ◌∷◌, ◌++◌, cond, codes, Option, Some, None, IsSomeAnd, ◌&&◌}
 use Rattle.std.specs.List.{list_any}
 use Rattle.suite_base.specs.Lines.{lines, trim}
 use Rattle.suite_base.specs.Numbers.{digits_after}

@@ -1,4 +1,3 @@
-use Rattle.std.proofs.Common.{false, true, ◌≡◌, IsTrue}
 use Rattle.suite_cli.proofs.TextCuts.{made_none, made_more, not_true}
 use Rattle.suite_cli.proofs.first_form.is_made_of.Goals as goal
 

@@ -1,5 +1,5 @@
-use Rattle.std.proofs.Common.{◌≡◌, true, false}
-use Rattle.suite_cli.proofs.FirstForms.{no_assignment, no_names, Differ}
+use Rattle.std.proofs.Common.{◌≡◌, true}
+use Rattle.suite_cli.proofs.FirstForms.{no_assignment, no_names}
 use Rattle.suite_cli.proofs.first_form.read_loop.Goals as goal
 
 pub returns-in_default-read_assignment : goal.returns-in_default-read_assignment
