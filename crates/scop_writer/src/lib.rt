@@ -7,3 +7,6 @@ mod scop_texts;
 mod statement_texts;
 
 pub use scop_texts::print_scop;
+
+#[cfg(test)]
+mod tests;
