@@ -31,3 +31,6 @@ pub mod GrammarLayout
 pub mod GrammarHeld
 pub mod GrammarRanges
 pub mod GrammarReadBack
+pub mod Faults
+pub mod FaultRules
+pub mod FaultPieces

@@ -1,6 +1,7 @@
 -- Which SCoP a text stands for, and why a text stands for none.
 use Rattle.std.specs.Prelude.{◌≡◌, ◌<◌, ◌^◌, ℕ, Bool, true, false, ◌&&◌, ◌||◌, ◌==◌, List, [], ◌∷◌, length, Option, Some, None, Result, Ok, Err}
 use Rattle.suite_base.specs.declared.refusals.Refusal.{Refusal}
+use Rattle.suite_base.specs.declared.refusals.Refusal.TheVariants.{BadScop, BetaClash, Limit, NotSolved, NumberTooLarge, SecondScop, TooLong}
 use Rattle.suite_base.specs.Lines.{lines}
 use Rattle.relation_core.specs.declared.part_rows.PartRow.{PartRow}
 use Rattle.relation_core.specs.Systems.{System, width}
@@ -106,6 +107,16 @@ abbrev pub GivesScop : Result ScopPieces Refusal → ScopData → Type 0
 GivesScop (Ok pieces) S = (refusal_of pieces ≡ None) × (S ≡ scop_of pieces)
 GivesScop (Err refusal) S = ⊥
 
+-- the kinds of refusal that a text can meet: of its lines, of a second SCoP, of its pieces
+abbrev pub IsTextRefusal : Refusal → Type 0
+IsTextRefusal (BadScop line) = Unit {0}
+IsTextRefusal (NumberTooLarge place) = Unit {0}
+IsTextRefusal (SecondScop line) = Unit {0}
+IsTextRefusal (NotSolved statement) = Unit {0}
+IsTextRefusal (BetaClash first second) = Unit {0}
+IsTextRefusal (Limit which number) = Unit {0}
+IsTextRefusal refusal = ⊥
+
 -- ---- what stands between the two
 
 -- a text is read exactly where it is one, as its pieces
@@ -116,6 +127,14 @@ ReadsExactly = (bytes : List ℕ) (pieces : ScopPieces)
 -- a text stands for at most one SCoP
 abbrev pub StandsForOne : Type 0
 StandsForOne = (bytes : List ℕ) (S T : ScopData) → IsScopText bytes S → IsScopText bytes T → S ≡ T
+
+-- the fault of a text is of such a kind
+abbrev pub FaultIsOfText : Type 0
+FaultIsOfText = (bytes : List ℕ) (refusal : Refusal) → fault bytes ≡ Some refusal → IsTextRefusal refusal
+
+-- no text has a fault by its length
+abbrev pub FaultIsNotTooLong : Type 0
+FaultIsNotTooLong = (bytes : List ℕ) → ¬ (fault bytes ≡ Some TooLong)
 
 -- ---- printed text
 

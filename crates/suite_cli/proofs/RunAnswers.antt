@@ -4,14 +4,15 @@ use Rattle.std.proofs.lemmas.List.{append-nil}
 use Rattle.suite_base.specs.Outside.{IsMissing, Under, Wrote, WrotePart}
 use Rattle.suite_base.specs.declared.reading.TheConstants.{MAX_INPUT}
 use Rattle.suite_base.specs.declared.refusals.Refusal.{Refusal}
-use Rattle.suite_base.specs.declared.refusals.Refusal.TheVariants.{NoRegion, OutsideFirstPath}
+use Rattle.suite_base.specs.declared.refusals.Refusal.TheVariants.{NoRegion, OutsideFirstPath, TooLong}
 use Rattle.scop_core.specs.ScopData.{ScopData}
 use Rattle.scop_core.specs.Layouts.{layout}
 use Rattle.scop_reader.specs.Texts.{fault}
+use Rattle.scop_reader.proofs.FaultPieces.{fault_is_not_too_long_law}
 use Rattle.clan_extract.proofs.OneLoops.{one_loop_means, one_loop_names}
 use Rattle.suite_cli.specs.declared.outcomes.Outcome.{Outcome}
 use Rattle.suite_cli.specs.declared.outcomes.Outcome.TheVariants.{Done, Refused, Usage, ReadFault, WriteFault, Memory}
-use Rattle.suite_cli.specs.Answers.{Answers, CommandAnswers, Completes, IsLoopText, RefusalCause, Refuses, Reported, Takes, Told, Translates, World, opening_of, reading_of, scop_of, writing_of}
+use Rattle.suite_cli.specs.Answers.{Answers, CommandAnswers, Completes, IsLoopText, IsRefused, IsTooLong, RefusalCause, Refuses, Reported, Takes, Told, Translates, World, opening_of, reading_of, scop_of, writing_of}
 use Rattle.suite_cli.specs.Commands.{Command, Clan, Scop, Words, file_of}
 use Rattle.suite_cli.specs.FirstForm.{AreWords, IsFirstForm, IsHead, IsAssignment, IsRefusal, LoopWords, content_lines, frame_of, loop_of}
 use Rattle.suite_cli.specs.Messages.{message}
@@ -79,16 +80,45 @@ not_refused : (command : Command) (text : List ℕ) (refusal : Refusal) → Take
 not_refused (Clan file) text refusal t h = no_loop_refusal text t.0 refusal t.1 h
 not_refused (Scop file) text refusal t h = let none : fault text ≡ None = text_has_no_fault text t.0 t.1 in absurd (cc)
 
--- a complete file has no refusal
-no_refusal : (command : Command) (before now : World) (bytes : List ℕ) (refusal : Refusal) → Tells before.held before.left (file_of command) bytes → length bytes ≤ MAX_INPUT → Takes command bytes
-    → ¬ RefusalCause command before now refusal
-no_refusal command before now bytes refusal told short taken (inl (is, h)) =
+-- no command refuses a text as too long
+never_long : (command : Command) (text : List ℕ) → ¬ Refuses command text TooLong
+never_long (Clan file) text h = h
+never_long (Scop file) text h = fault_is_not_too_long_law text h
+
+cause_unless_long : (command : Command) (before now : World) (refusal : Refusal) → ¬ (refusal ≡ TooLong) → IsRefused command before now refusal → RefusalCause command before now refusal
+cause_unless_long command before now TooLong other h = absurd (other refl)
+cause_unless_long command before now refusal other h = h
+
+-- a text that was read and is refused has its cause
+pub cause_of : (command : Command) (before now : World) (refusal : Refusal) → IsRefused command before now refusal → RefusalCause command before now refusal
+cause_of command before now refusal h =
+    let other : ¬ (refusal ≡ TooLong) = λ e. never_long command h.text (subst (Refuses command h.text) e h.refused) in
+    cause_unless_long command before now refusal other h
+
+-- what a cause says: the length, or the text that was read
+either_cause : (command : Command) (before now : World) (refusal : Refusal) → RefusalCause command before now refusal → IsTooLong command before ⊎ IsRefused command before now refusal
+either_cause command before now TooLong h = inl h
+either_cause command before now refusal h = inr h
+
+no_length : (command : Command) (before : World) (bytes : List ℕ) → Tells before.held before.left (file_of command) bytes → length bytes ≤ MAX_INPUT → ¬ IsTooLong command before
+no_length command before bytes told short h =
     let long : MAX_INPUT < length bytes = named_by before.held before.left (file_of command) bytes (λ b. MAX_INPUT < length b) told h in
     omega arith
-no_refusal command before now bytes refusal told short taken (inr h) =
+
+no_text_refusal : (command : Command) (before now : World) (bytes : List ℕ) (refusal : Refusal) → Tells before.held before.left (file_of command) bytes → Takes command bytes → ¬ IsRefused command before now refusal
+no_text_refusal command before now bytes refusal told taken h =
     let same : h.text ≡ bytes = named_by before.held before.left (file_of command) bytes (λ b. h.text ≡ b) told h.read.whole in
     let P : List ℕ → Type 0 = λ b. Refuses command b refusal in
     not_refused command bytes refusal taken (subst P same h.refused)
+
+-- a complete file has no refusal
+no_refusal : (command : Command) (before now : World) (bytes : List ℕ) (refusal : Refusal) → Tells before.held before.left (file_of command) bytes → length bytes ≤ MAX_INPUT → Takes command bytes
+    → ¬ RefusalCause command before now refusal
+no_refusal command before now bytes refusal told short taken h =
+    elim (either_cause command before now refusal h) [
+      | inl long ↦ no_length command before bytes told short long
+      | inr text ↦ no_text_refusal command before now bytes refusal told taken text
+    ]
 
 -- what the outcome tells of a complete file
 complete_for : (command : Command) (before now : World) (outcome : Outcome) (bytes : List ℕ) → Tells before.held before.left (file_of command) bytes → length bytes ≤ MAX_INPUT → Takes command bytes

@@ -125,9 +125,10 @@ pub record IsRefused (command : Command) (before now : World) (refusal : Refusal
   pub read : ReadWhole before now (file_of command) text
   pub refused : Refuses command text refusal
 
--- why the file was refused
+-- why the file was refused: TooLong for its length alone, every other refusal for its text
 abbrev pub RefusalCause : Command → World → World → Refusal → Type 0
-RefusalCause command before now refusal = ((refusal ≡ TooLong) × IsTooLong command before) ⊎ IsRefused command before now refusal
+RefusalCause command before now TooLong = IsTooLong command before
+RefusalCause command before now refusal = IsRefused command before now refusal
 
 -- what the outcome says of this command
 abbrev pub CommandAnswers : Command → World → World → Outcome → Type 0
