@@ -100,22 +100,22 @@ bind_err (Ok x) f d e = inr (x, refl, e)
 bind_err (Err c) f d e = inl cc
 
 -- values w are made of a first x and a second y
-pub record Joins {X Y W : Type 0} (D1 : X → Type 0) (D2 : Y → Type 0) (D : W → Type 0) (g : X → Y → W) (a : W → X) (b : W → Y) : Type 0 where
-  pub first : (x : X) (y : Y) → D1 x → D2 y → a (g x y) ≡ x
-  pub second : (x : X) (y : Y) → D1 x → D2 y → b (g x y) ≡ y
-  pub fits : (x : X) (y : Y) → D1 x → D2 y → D (g x y)
-  pub fits_first : (w : W) → D w → D1 (a w)
-  pub fits_second : (w : W) → D w → D2 (b w)
+pub record Joins {X Y W : Type 0} (FitsX : X → Type 0) (FitsY : Y → Type 0) (D : W → Type 0) (g : X → Y → W) (a : W → X) (b : W → Y) : Type 0 where
+  pub first : (x : X) (y : Y) → FitsX x → FitsY y → a (g x y) ≡ x
+  pub second : (x : X) (y : Y) → FitsX x → FitsY y → b (g x y) ≡ y
+  pub fits : (x : X) (y : Y) → FitsX x → FitsY y → D (g x y)
+  pub fits_first : (w : W) → D w → FitsX (a w)
+  pub fits_second : (w : W) → D w → FitsY (b w)
   pub back : (w : W) → D w → g (a w) (b w) ≡ w
 
 abbrev pub both : {X Y W : Type 0} → (X → Y → W) → (List Lexeme → Result (X × List Lexeme) Refusal) → (List Lexeme → Result (Y × List Lexeme) Refusal) → List Lexeme → Result (W × List Lexeme) Refusal
 both g R Q ts = R ts >>= λ p. Q p.1 >>= λ q. read_ok (g p.0 q.0) q.1
 
-module _ {X Y W : Type 0} (D1 : X → Type 0) (D2 : Y → Type 0) (D : W → Type 0) (g : X → Y → W) (a : W → X) (b : W → Y) (joins : Joins D1 D2 D g a b)
-    (S1 : X → List Token) (S2 : Y → List Token) (R : List Lexeme → Result (X × List Lexeme) Refusal) (Q : List Lexeme → Result (Y × List Lexeme) Refusal)
-    (one : Reads D1 S1 R) (two : Reads D2 S2 Q) (y0 : Y) (y0_fits : D2 y0) where
+module _ {X Y W : Type 0} (FitsX : X → Type 0) (FitsY : Y → Type 0) (D : W → Type 0) (g : X → Y → W) (a : W → X) (b : W → Y) (joins : Joins FitsX FitsY D g a b)
+    (spellX : X → List Token) (spellY : Y → List Token) (R : List Lexeme → Result (X × List Lexeme) Refusal) (Q : List Lexeme → Result (Y × List Lexeme) Refusal)
+    (one : Reads FitsX spellX R) (two : Reads FitsY spellY Q) (y0 : Y) (y0_fits : FitsY y0) where
   abbrev spelled : W → List Token
-  spelled w = S1 (a w) ++ S2 (b w)
+  spelled w = spellX (a w) ++ spellY (b w)
 
   both_sound : (ts us : List Lexeme) (w : W) → both g R Q ts ≡ read_ok w us → D w × Begins (spelled w) ts us
   both_sound ts us w e =
@@ -125,15 +125,15 @@ module _ {X Y W : Type 0} (D1 : X → Type 0) (D2 : Y → Type 0) (D : W → Typ
       let left : q.0.1 ≡ us = same_left (g p.0.0 q.0.0) w q.0.1 us q.2 in
       let h = one.sound ts p.0.1 p.0.0 p.1 in
       let k = two.sound p.0.1 q.0.1 q.0.0 q.1 in
-      let parts : spelled (g p.0.0 q.0.0) ≡ S1 p.0.0 ++ S2 q.0.0 = rw (joins.first p.0.0 q.0.0 h.0 k.0, joins.second p.0.0 q.0.0 h.0 k.0) refl in
-      let at : Begins (S1 p.0.0 ++ S2 q.0.0) ts q.0.1 = Begins-join (S1 p.0.0) (S2 q.0.0) ts p.0.1 q.0.1 h.1 k.1 in
+      let parts : spelled (g p.0.0 q.0.0) ≡ spellX p.0.0 ++ spellY q.0.0 = rw (joins.first p.0.0 q.0.0 h.0 k.0, joins.second p.0.0 q.0.0 h.0 k.0) refl in
+      let at : Begins (spellX p.0.0 ++ spellY q.0.0) ts q.0.1 = Begins-join (spellX p.0.0) (spellY q.0.0) ts p.0.1 q.0.1 h.1 k.1 in
       let placed_right : Begins (spelled (g p.0.0 q.0.0)) ts q.0.1 = subst (λ (l : List Token). Begins l ts q.0.1) (sym parts) at in
       let whole : Begins (spelled (g p.0.0 q.0.0)) ts us = subst (λ (l : List Lexeme). Begins (spelled (g p.0.0 q.0.0)) ts l) left placed_right in
       (subst D made (joins.fits p.0.0 q.0.0 h.0 k.0), subst (λ (v : W). Begins (spelled v) ts us) made whole)
 
   both_complete : (ts us : List Lexeme) (w : W) → D w → Begins (spelled w) ts us → both g R Q ts ≡ read_ok w us
   both_complete ts us w d begins =
-      let cut = Begins-split (S1 (a w)) (S2 (b w)) ts us begins in
+      let cut = Begins-split (spellX (a w)) (spellY (b w)) ts us begins in
       let r : R ts ≡ read_ok (a w) cut.mid = one.complete ts cut.mid (a w) (joins.fits_first w d) cut.first in
       let q : Q cut.mid ≡ read_ok (b w) us = two.complete cut.mid us (b w) (joins.fits_second w d) cut.second in
       rw (r, q, joins.back w d) refl
@@ -145,9 +145,9 @@ module _ {X Y W : Type 0} (D1 : X → Type 0) (D2 : Y → Type 0) (D : W → Typ
       let left : q.0.1 ≡ us = same_left (g p.0.0 q.0.0) w q.0.1 us q.2 in
       subst IsText left (two.keeps p.0.1 q.0.1 q.0.0 q.1 (one.keeps ts p.0.1 p.0.0 p.1 h))
 
-  faulty_first : (ts : List Lexeme) (r : Refusal) → Faulty D1 S1 ts r → Faulty D spelled ts r
+  faulty_first : (ts : List Lexeme) (r : Refusal) → Faulty FitsX spellX ts r → Faulty D spelled ts r
   faulty_first ts r f =
-      let parts : spelled (g f.some y0) ≡ S1 f.some ++ S2 y0 = rw (joins.first f.some y0 f.some_fits y0_fits, joins.second f.some y0 f.some_fits y0_fits) refl in
+      let parts : spelled (g f.some y0) ≡ spellX f.some ++ spellY y0 = rw (joins.first f.some y0 f.some_fits y0_fits, joins.second f.some y0 f.some_fits y0_fits) refl in
       record {
         front = f.front;
         here = f.here;
@@ -156,28 +156,28 @@ module _ {X Y W : Type 0} (D1 : X → Type 0) (D2 : Y → Type 0) (D : W → Typ
         is = f.is;
         some = g f.some y0;
         some_fits = joins.fits f.some y0 f.some_fits y0_fits;
-        more = f.more ++ S2 y0;
-        goes_on = sym (append_assoc f.front f.more (S2 y0)) ∙ (ap (λ (l : List Token). l ++ S2 y0) f.goes_on ∙ sym parts);
-        stops = λ w after others d e. f.stops (a w) (S2 (b w) ++ after) others (joins.fits_first w d) (sym (append_assoc (S1 (a w)) (S2 (b w)) after) ∙ e);
+        more = f.more ++ spellY y0;
+        goes_on = sym (append_assoc f.front f.more (spellY y0)) ∙ (ap (λ (l : List Token). l ++ spellY y0) f.goes_on ∙ sym parts);
+        stops = λ w after others d e. f.stops (a w) (spellY (b w) ++ after) others (joins.fits_first w d) (sym (append_assoc (spellX (a w)) (spellY (b w)) after) ∙ e);
       }
 
-  faulty_second : (ts mid : List Lexeme) (x : X) (r : Refusal) → R ts ≡ read_ok x mid → Faulty D2 S2 mid r → Faulty D spelled ts r
+  faulty_second : (ts mid : List Lexeme) (x : X) (r : Refusal) → R ts ≡ read_ok x mid → Faulty FitsY spellY mid r → Faulty D spelled ts r
   faulty_second ts mid x r e f =
       let h = one.sound ts mid x e in
-      let parts : spelled (g x f.some) ≡ S1 x ++ S2 f.some = rw (joins.first x f.some h.0 f.some_fits, joins.second x f.some h.0 f.some_fits) refl in
+      let parts : spelled (g x f.some) ≡ spellX x ++ spellY f.some = rw (joins.first x f.some h.0 f.some_fits, joins.second x f.some h.0 f.some_fits) refl in
       record {
-        front = S1 x ++ f.front;
+        front = spellX x ++ f.front;
         here = f.here;
         rest = f.rest;
-        begins = Begins-join (S1 x) f.front ts mid (f.here ∷ f.rest) h.1 f.begins;
+        begins = Begins-join (spellX x) f.front ts mid (f.here ∷ f.rest) h.1 f.begins;
         is = f.is;
         some = g x f.some;
         some_fits = joins.fits x f.some h.0 f.some_fits;
         more = f.more;
-        goes_on = append_assoc (S1 x) f.front f.more ∙ (ap (λ (l : List Token). S1 x ++ l) f.goes_on ∙ sym parts);
+        goes_on = append_assoc (spellX x) f.front f.more ∙ (ap (λ (l : List Token). spellX x ++ l) f.goes_on ∙ sym parts);
         stops = λ w after others d e.
-            let same = unique D1 S1 R one (a w) x (S2 (b w) ++ after) (f.front ++ f.here.token ∷ others) (joins.fits_first w d) h.0
-            (sym (append_assoc (S1 (a w)) (S2 (b w)) after) ∙ (e ∙ append_assoc (S1 x) f.front (f.here.token ∷ others))) in
+            let same = unique FitsX spellX R one (a w) x (spellY (b w) ++ after) (f.front ++ f.here.token ∷ others) (joins.fits_first w d) h.0
+            (sym (append_assoc (spellX (a w)) (spellY (b w)) after) ∙ (e ∙ append_assoc (spellX x) f.front (f.here.token ∷ others))) in
             f.stops (b w) after others (joins.fits_second w d) same.1;
       }
 
