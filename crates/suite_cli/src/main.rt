@@ -6,6 +6,8 @@
 mod adapter_tests;
 mod adapters;
 mod commands;
+#[cfg(test)]
+mod feature_tests;
 mod file_words;
 mod first_form;
 mod messages;

@@ -14,6 +14,31 @@ const OTHER_TEXT: &[u8] =
 /// The lines of a kept extension.
 const KEPT_LINES: &[u8] = b"<scatnames>\nb0 i b1\r\n</scatnames>\n";
 
+/// Two loops, up to the part of the second scattering: `A[i] = B[i];` for i from 0 to N - 1, and
+/// `C[i] = A[i+1];` for i from 0 to N - 2.
+const TWO_LOOPS: &[u8] = b"<OpenScop>\nC\nCONTEXT\n0 3 0 0 0 1\n1\n<strings>\nN\n</strings>\n2\n\
+4\nDOMAIN\n2 4 1 0 0 1\n1 1 0 0\n1 -1 1 -1\n\
+SCATTERING\n3 7 3 1 0 1\n0 -1 0 0 0 0 0\n0 0 -1 0 1 0 0\n0 0 0 -1 0 0 0\n\
+READ\n2 6 2 1 0 1\n0 -1 0 0 0 2\n0 0 -1 1 0 0\n\
+WRITE\n2 6 2 1 0 1\n0 -1 0 0 0 1\n0 0 -1 1 0 0\n\
+1\n<body>\n1\ni\nA[i] = B[i];\n</body>\n\
+4\nDOMAIN\n2 4 1 0 0 1\n1 1 0 0\n1 -1 1 -2\n\
+SCATTERING\n";
+
+/// The lines behind the scattering of the second loop.
+const SECOND_LOOP_REST: &[u8] = b"READ\n2 6 2 1 0 1\n0 -1 0 0 0 1\n0 0 -1 1 0 1\n\
+WRITE\n2 6 2 1 0 1\n0 -1 0 0 0 3\n0 0 -1 1 0 0\n\
+1\n<body>\n1\ni\nC[i] = A[i+1];\n</body>\n\
+<arrays>\n3\n1 A\n2 B\n3 C\n</arrays>\n</OpenScop>\n";
+
+/// The two loops with these lines as the part of the second scattering.
+fn two_loops(alloc: Global, scattering: &[u8]) -> Result<Text, NoMemory> {
+    let mut text = text_of(alloc, TWO_LOOPS)?;
+    text.push_bytes(scattering)?;
+    text.push_bytes(SECOND_LOOP_REST)?;
+    Ok(text)
+}
+
 /// The first `count` lines of the one loop's SCoP, with `kept` in place of line `number`.
 fn changed(alloc: Global, number: usize, kept: &[u8], count: usize) -> Result<Text, NoMemory> {
     let mut text = Text::new(alloc);
@@ -29,10 +54,11 @@ fn changed(alloc: Global, number: usize, kept: &[u8], count: usize) -> Result<Te
 
 #[test]
 fn layouts_are_printed(rt: HostRuntime) -> Result<(), Fail> {
-    let rows: [(usize, &[u8]); 3] = [
+    let rows: [(usize, &[u8]); 4] = [
         (0, b""),
         (14, b"1 -1 1 170141183460469231731687303715884105727"),
         (20, b"READ"),
+        (20, b"MAY_WRITE"),
     ];
     for (number, line) in rows {
         let text = changed(rt.alloc(), number, line, 34)?;
@@ -41,6 +67,60 @@ fn layouts_are_printed(rt: HostRuntime) -> Result<(), Fail> {
         assert_eq!(rt; run.out.bytes(), text.bytes());
         assert_eq!(rt; run.err.bytes(), b"".as_slice());
     }
+    Ok(())
+}
+
+/// The loops one behind the other, fused with the second a turn later, and the second without a level.
+#[test]
+fn schedules_of_two_loops_are_printed(rt: HostRuntime) -> Result<(), Fail> {
+    let rows: [&[u8]; 3] = [
+        b"3 7 3 1 0 1\n0 -1 0 0 0 0 1\n0 0 -1 0 1 0 0\n0 0 0 -1 0 0 0\n",
+        b"3 7 3 1 0 1\n0 -1 0 0 0 0 0\n0 0 -1 0 1 0 1\n0 0 0 -1 0 0 1\n",
+        b"1 5 1 1 0 1\n0 -1 0 0 1\n",
+    ];
+    for scattering in rows {
+        let text = two_loops(rt.alloc(), scattering)?;
+        let run = run_input(rt.alloc(), "scop", text.bytes())?;
+        assert_eq!(rt; run.outcome, Outcome::Done);
+        assert_eq!(rt; run.out.bytes(), text.bytes());
+        assert_eq!(rt; run.err.bytes(), b"".as_slice());
+    }
+    Ok(())
+}
+
+/// The second beta vector equals the first one, or is its beginning, or begins with it.
+#[test]
+fn clashes_of_two_loops_are_named(rt: HostRuntime) -> Result<(), Fail> {
+    let rows: [&[u8]; 3] = [
+        b"3 7 3 1 0 1\n0 -1 0 0 0 0 0\n0 0 -1 0 1 0 0\n0 0 0 -1 0 0 0\n",
+        b"1 5 1 1 0 1\n0 -1 0 0 0\n",
+        b"5 9 5 1 0 1\n0 -1 0 0 0 0 0 0 0\n0 0 -1 0 0 0 1 0 0\n\
+0 0 0 -1 0 0 0 0 0\n0 0 0 0 -1 0 0 0 7\n0 0 0 0 0 -1 0 0 1\n",
+    ];
+    for scattering in rows {
+        let text = two_loops(rt.alloc(), scattering)?;
+        let run = run_file(rt.alloc(), "scop", text, NO_FAILS)?;
+        assert_eq!(rt; status(&run.outcome), 1);
+        assert_eq!(rt;
+            run.err.bytes(),
+            b"suite: refused 1 15 BetaClash 1 2\n".as_slice()
+        );
+        assert_eq!(rt; run.out.bytes(), b"".as_slice());
+    }
+    Ok(())
+}
+
+#[test]
+fn a_text_twice_is_refused(rt: HostRuntime) -> Result<(), Fail> {
+    let mut text = text_of(rt.alloc(), ONE_LOOP_SCOP)?;
+    text.push_bytes(ONE_LOOP_SCOP)?;
+    let run = run_file(rt.alloc(), "scop", text, NO_FAILS)?;
+    assert_eq!(rt; status(&run.outcome), 1);
+    assert_eq!(rt;
+        run.err.bytes(),
+        b"suite: refused 1 13 SecondScop 35\n".as_slice()
+    );
+    assert_eq!(rt; run.out.bytes(), b"".as_slice());
     Ok(())
 }
 
@@ -63,7 +143,7 @@ fn texts_of_other_tools_are_printed(rt: HostRuntime) -> Result<(), Fail> {
 #[test]
 fn faults_of_texts_are_named(rt: HostRuntime) -> Result<(), Fail> {
     let large: &[u8] = b"suite: refused 1 12 NumberTooLarge 14 8\n";
-    let rows: [(usize, &[u8], usize, &[u8]); 8] = [
+    let rows: [(usize, &[u8], usize, &[u8]); 10] = [
         (
             14,
             b"1 -1 1 170141183460469231731687303715884105728",
@@ -89,6 +169,18 @@ fn faults_of_texts_are_named(rt: HostRuntime) -> Result<(), Fail> {
             b"0 0 -1 0 1 0 0",
             34,
             b"suite: refused 1 14 NotSolved 1\n",
+        ),
+        (
+            20,
+            b"WRITE\n2 7 2 1 1 1\n0 -1 0 0 0 0 1\n0 0 -1 1 0 0 0\n0\n</OpenScop>",
+            20,
+            b"suite: refused 1 14 NotSolved 1\n",
+        ),
+        (
+            4,
+            b"2\n0 3 0 0 0 1\n0 3 0 0 0 1",
+            34,
+            b"suite: refused 1 11 BadScop 4\n",
         ),
         (
             34,
