@@ -1,7 +1,10 @@
 pub mod NumberLemmas
+pub mod WordLemmas
 pub mod Turns
 pub mod ValueLemmas
 pub mod StatementLemmas
+pub mod SkipLemmas
+pub mod PastStatements
 pub mod TokenFacts
 pub mod Yields
 pub mod ValueYields
@@ -14,4 +17,6 @@ pub mod Runs
 pub mod ValueRuns
 pub mod StatementRuns
 pub mod RegionLemmas
+pub mod NodeLemmas
+pub mod PastValues
 mod Checks

@@ -4,19 +4,26 @@ ghost use Rattle.std.specs.Prelude.{◌≡◌, ◌<◌, ◌≤◌, ◌-◌, ◌^
 ghost use Rattle.c_lexer.specs.Places.{place_at};
 ghost use Rattle.c_parser.specs.Regions as spec;
 
-use crate::statements::region;
+use crate::nodes::{Nodes, region_marks};
 use crate::tokens::Tokens;
-use crate::tree::Region;
 use c_lexer::{Lexer, Span};
 use std::alloc::Global;
 use suite_base::Fail;
 
-/// The tree of the region at `span`, beside its source. The text has fewer than 2^32 - 1 bytes, the
-/// span lies in it, and `span.first` is the place of byte `span.from`.
+/// A region: its statements, and the text that their spans lie in.
+#[derive(Drop)]
+pub struct Region<'a> {
+    pub source: &'a [u8],
+    pub nodes: Nodes<'a>,
+}
+
+/// The trees of the statements of the region at `span`, beside its source. The text has fewer than
+/// 2^32 - 1 bytes, the span lies in it, and `span.first` is the place of byte `span.from`.
 ///
-/// The answer is a tree exactly where the span's tokens are derived to it by the grammar with at most 64
-/// nests and 12 loops open at once, unless memory is wanting. Nests are brackets of any kind, the
-/// branches of an `if`, operands of unary signs, and what follows `?`.
+/// The answer is `Ok` exactly where the span's tokens are derived to these trees by the grammar with at
+/// most 64 nests and 12 loops open at once, unless memory is wanting. Nests are brackets of any kind, the
+/// branches of an `if`, operands of unary signs, and what follows `?`. Memory is taken for the places of the
+/// statements alone, 16 bytes each; those in a loop, a branch or a block take none.
 ///
 /// A refusal has the place of the first token with which the rules do not go on; before it stand tokens of
 /// the grammar alone. `BadToken`: none begins there. `NumberTooLarge`: an integer above 2^127 - 1.
@@ -45,10 +52,10 @@ fn read<'a>(alloc: Global, bytes: &'a [u8], span: Span) -> Result<Region<'a>, Fa
     ensures { spec.Parses bytes.now span result }
 {
     let mut tokens = Tokens::new(Lexer::new(bytes, span));
-    match region(alloc, &mut tokens) {
-        Ok(nodes) => Ok(Region {
+    match region_marks(alloc, &mut tokens) {
+        Ok(marks) => Ok(Region {
             source: bytes,
-            nodes,
+            nodes: Nodes::new(&bytes[..span.to], marks),
         }),
         Err(stop) => Err(stop.fail()),
     }

@@ -122,9 +122,20 @@ fn lookup(table: &[(&[u8], Symbol)], text: &[u8]) -> Symbol
     Symbol::Name
 }
 
+/// The least and the greatest number of bytes of these words.
+const SHORTEST_WORD: usize = 2;
+
+const LONGEST_WORD: usize = 8;
+
 fn name_symbol(text: &[u8]) -> Symbol
     ensures { result ≡ spec.name_symbol text.now }
 {
+    if text.len() < SHORTEST_WORD {
+        return Symbol::Name;
+    }
+    if text.len() > LONGEST_WORD {
+        return Symbol::Name;
+    }
     lookup(&WORDS, text)
 }
 

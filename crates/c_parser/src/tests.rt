@@ -28,16 +28,10 @@ fn refused(refusal: Refusal) -> Outcome {
 }
 
 fn read(alloc: std::alloc::Global, text: &[u8]) -> Outcome {
-    if text.len() > 100000 {
+    if text.len() > 20_000_000 {
         return Outcome::Memory;
     }
-    let first = Place { line: 1, column: 1 };
-    let span = Span {
-        from: 0,
-        to: text.len(),
-        first,
-    };
-    match parse_region(alloc, text, span) {
+    match parse_region(alloc, text, whole(text)) {
         Ok(region) => Outcome::Nodes(region.nodes.len()),
         Err(Fail::Memory) => Outcome::Memory,
         Err(Fail::Refused(refusal)) => refused(refusal),
@@ -110,14 +104,16 @@ fn statements(rt: HostRuntime) {
     }
 }
 
-/// A text of `count` times `piece`, and then `end`.
+/// A text of `begin`, `count` times `piece`, and then `end`.
 fn repeated(
     alloc: std::alloc::Global,
+    begin: &[u8],
     piece: &[u8],
     count: usize,
     end: &[u8],
 ) -> Result<Vec<u8>, AllocError> {
     let mut text = Vec::new(alloc);
+    text.extend_from_slice(begin)?;
     for _ in 0..count {
         text.extend_from_slice(piece)?;
     }
@@ -150,10 +146,35 @@ fn depths(rt: HostRuntime) -> Result<(), Failed> {
         (b"if(a){", 32, b"if(a)", Outcome::Deep(1, 195)),
     ];
     for (piece, count, end, wanted) in cases {
-        let text = repeated(rt.alloc(), piece, count, end)?;
+        let text = repeated(rt.alloc(), b"", piece, count, end)?;
         assert_eq!(rt; read(rt.alloc(), text.as_slice()), wanted);
     }
     Ok(())
+}
+
+/// Texts of 16 MiB that open nests without end are refused where the 65th is opened.
+#[test]
+fn endless_nests(rt: HostRuntime) -> Result<(), Failed> {
+    let cases: [(&[u8], &[u8], usize, Outcome); 3] = [
+        (b"a = ", b"(", 16_777_212, Outcome::Deep(1, 69)),
+        (b"", b"{", 16_777_216, Outcome::Deep(1, 65)),
+        (b"if(a);", b"else if(a);", 1_525_200, Outcome::Deep(1, 707)),
+    ];
+    for (begin, piece, count, wanted) in cases {
+        let text = repeated(rt.alloc(), begin, piece, count, b"")?;
+        assert_eq!(rt; read(rt.alloc(), text.as_slice()), wanted);
+    }
+    Ok(())
+}
+
+/// The span of a whole text.
+fn whole(text: &[u8]) -> Span {
+    let first = Place { line: 1, column: 1 };
+    Span {
+        from: 0,
+        to: text.len(),
+        first,
+    }
 }
 
 /// An `else` belongs to the nearest `if`, and a body goes up to its `;`.
@@ -161,16 +182,10 @@ fn depths(rt: HostRuntime) -> Result<(), Failed> {
 fn shapes(rt: HostRuntime) -> Result<(), Failed> {
     let text: &[u8] = b"if (a) if (b) x[i] = 1 ; else ;";
     assert!(rt; text.len() < 1000);
-    let first = Place { line: 1, column: 1 };
-    let span = Span {
-        from: 0,
-        to: text.len(),
-        first,
-    };
-    let Ok(region) = parse_region(rt.alloc(), text, span) else {
+    let Ok(region) = parse_region(rt.alloc(), text, whole(text)) else {
         return Err(Failed::from(AllocError));
     };
-    let Some(Node::If(outer)) = region.nodes.get(0) else {
+    let Some(Node::If(outer)) = region.nodes.get(rt.alloc(), 0)? else {
         return Err(Failed::from(AllocError));
     };
     assert!(rt; outer.get().other.is_none());
@@ -184,5 +199,30 @@ fn shapes(rt: HostRuntime) -> Result<(), Failed> {
     assert_eq!(rt; (assign.body.from, assign.body.to), (14, 23));
     assert_eq!(rt; (assign.target.name.from, assign.target.name.to), (14, 15));
     assert_eq!(rt; assign.target.subscripts.len(), 1);
+    Ok(())
+}
+
+/// The body of an assignment.
+fn body(node: &Option<Node>) -> (usize, usize) {
+    match node {
+        Some(Node::Assign(assign)) => (assign.body.from, assign.body.to),
+        _ => (0, 0),
+    }
+}
+
+/// Each statement is read again by itself, in any order, behind blanks and comments.
+#[test]
+fn statements_by_place(rt: HostRuntime) -> Result<(), Failed> {
+    let text: &[u8] = b"a = 1;\n/* of */ b[i] += a; // ;\n\n\tc = b[2] ;";
+    assert!(rt; text.len() < 1000);
+    let Ok(region) = parse_region(rt.alloc(), text, whole(text)) else {
+        return Err(Failed::from(AllocError));
+    };
+    assert_eq!(rt; region.nodes.len(), 3);
+    let wanted = [(2, (34, 43)), (0, (0, 5)), (1, (16, 25)), (3, (0, 0))];
+    for (k, span) in wanted {
+        let node = region.nodes.get(rt.alloc(), k)?;
+        assert_eq!(rt; body(&node), span);
+    }
     Ok(())
 }
