@@ -1,5 +1,8 @@
 //! Regions that are read, and the refusal of each that is not.
 
+ghost use Rattle.std.specs.Prelude.{◌≡◌, ◌≤◌, length};
+ghost use Rattle.c_lexer.specs.Places.{place_at};
+
 use crate::{Node, parse_region};
 use c_lexer::Span;
 use std::alloc::AllocError;
@@ -168,7 +171,11 @@ fn endless_nests(rt: HostRuntime) -> Result<(), Failed> {
 }
 
 /// The span of a whole text.
-fn whole(text: &[u8]) -> Span {
+fn whole(text: &[u8]) -> Span
+    ensures order { result.from ≤ result.to }
+    ensures within { result.to ≤ length text.now }
+    ensures placed { result.first ≡ place_at text.now result.from }
+{
     let first = Place { line: 1, column: 1 };
     Span {
         from: 0,
