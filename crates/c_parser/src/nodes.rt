@@ -16,8 +16,8 @@ use std::marker::Model;
 use suite_base::{List, NoMemory};
 
 /// The statements of a region, which a contract sees as the list of their trees. What is kept of a
-/// statement is where it begins in the source, 16 bytes; its tree, which takes 30 to 100 times as much room
-/// as its text, is read again when it is asked for.
+/// statement is where it begins in the source, 16 bytes; its tree is read again when it is asked for. The
+/// tree of a short assignment takes about a hundred times as much room as its text.
 #[derive(Drop)]
 pub struct Nodes<'a> {
     /// The source up to the region's end.

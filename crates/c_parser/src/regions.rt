@@ -1,4 +1,4 @@
-//! The parser's entry: the span of a region to its tree.
+//! The parser's entry: the span of a region to its statements.
 
 ghost use Rattle.std.specs.Prelude.{◌≡◌, ◌<◌, ◌≤◌, ◌-◌, ◌^◌, length, IfOk};
 ghost use Rattle.c_lexer.specs.Places.{place_at};
