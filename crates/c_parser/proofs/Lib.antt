@@ -3,8 +3,6 @@ pub mod WordLemmas
 pub mod Turns
 pub mod ValueLemmas
 pub mod StatementLemmas
-pub mod SkipLemmas
-pub mod PastStatements
 pub mod TokenFacts
 pub mod Yields
 pub mod ValueYields
@@ -17,6 +15,4 @@ pub mod Runs
 pub mod ValueRuns
 pub mod StatementRuns
 pub mod RegionLemmas
-pub mod NodeLemmas
-pub mod PastValues
 mod Checks

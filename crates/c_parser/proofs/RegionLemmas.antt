@@ -10,7 +10,7 @@ use Rattle.suite_base.specs.declared.places.Place.{Place}
 use Rattle.c_parser.specs.declared.stops.Stop.{Stop}
 use Rattle.c_parser.specs.declared.stops.Stop.TheVariants.{Memory, Refused}
 use Rattle.c_parser.specs.declared.tree.Node.{Node}
-use Rattle.c_parser.specs.declared.regions.Region.{Region}
+use Rattle.c_parser.specs.declared.tree.Region.{Region}
 use Rattle.c_parser.specs.Input.{Outcome}
 use Rattle.c_parser.specs.Statements.{region}
 use Rattle.c_parser.specs.Derivations.{Derived}

@@ -3,9 +3,7 @@ pub mod Input
 pub mod Cursor
 pub mod Values
 pub mod Nests
-pub mod Skips
 pub mod Statements
-pub mod Nodes
 pub mod Grammar
 pub mod Derivations
 pub mod Prefixes

@@ -7,7 +7,7 @@ use Rattle.c_lexer.specs.Readings.{Reading}
 use Rattle.c_parser.specs.declared.stops.Stop.{Stop}
 use Rattle.c_parser.specs.declared.stops.Stop.TheVariants.{Refused}
 use Rattle.c_parser.specs.declared.tree.Node.{Node}
-use Rattle.c_parser.specs.declared.regions.Region.{Region}
+use Rattle.c_parser.specs.declared.tree.Region.{Region}
 use Rattle.c_parser.specs.Input.{Outcome}
 use Rattle.c_parser.specs.Statements.{region}
 use Rattle.c_parser.specs.Derivations.{Derived}

@@ -38,7 +38,7 @@ fn assign_sign(symbol: Symbol) -> Option<AssignSign>
     }
 }
 
-pub fn is_upward(rel: Rel) -> bool
+fn is_upward(rel: Rel) -> bool
     ensures { result ≡ spec.is_upward rel }
 {
     match rel {
@@ -48,7 +48,7 @@ pub fn is_upward(rel: Rel) -> bool
 }
 
 #[tactic(auto, unfolding(crate::specs::Statements::rel))]
-pub fn rel(tokens: &mut Tokens<'_>) -> Result<Rel, Stop>
+fn rel(tokens: &mut Tokens<'_>) -> Result<Rel, Stop>
     ensures { Reads (spec.rel tokens.old) result tokens.new }
 {
     let Some(rel) = rel_sign(tokens.peek()) else {
@@ -83,7 +83,7 @@ fn step_behind(tokens: &mut Tokens<'_>, up: bool, name: Piece) -> Result<Step, S
 }
 
 #[tactic(auto, unfolding(crate::specs::Statements::step))]
-pub fn step(tokens: &mut Tokens<'_>, up: bool, name: Piece) -> Result<Step, Stop>
+fn step(tokens: &mut Tokens<'_>, up: bool, name: Piece) -> Result<Step, Stop>
     ensures { Reads (spec.step up name tokens.old) result tokens.new }
 {
     if !tokens.eat(step_sign(up)) {

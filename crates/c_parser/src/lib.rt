@@ -2,23 +2,21 @@
 #![tactic(auto)]
 
 mod heads;
-mod nodes;
 mod regions;
+mod rooms;
 mod signs;
-mod statement_skips;
 mod statements;
 mod stops;
 mod symbols;
 mod tokens;
 mod tree;
-mod value_skips;
 mod values;
 
-pub use nodes::Nodes;
-pub use regions::{Region, parse_region};
+pub use regions::parse_region;
 pub use tree::{
     And, Arms, Assign, AssignSign, Branch, Compare, Equal, EqualSign, Loop, Node, Or, Piece,
-    Primary, Product, ProductSign, Rel, Step, Sum, SumSign, Target, Unary, UnarySign, Value,
+    Primary, Product, ProductSign, Region, Rel, Step, Sum, SumSign, Target, Unary, UnarySign,
+    Value,
 };
 
 #[cfg(test)]

@@ -4,26 +4,19 @@ ghost use Rattle.std.specs.Prelude.{◌≡◌, ◌<◌, ◌≤◌, ◌-◌, ◌^
 ghost use Rattle.c_lexer.specs.Places.{place_at};
 ghost use Rattle.c_parser.specs.Regions as spec;
 
-use crate::nodes::{Nodes, region_marks};
+use crate::statements::region;
 use crate::tokens::Tokens;
+use crate::tree::Region;
 use c_lexer::{Lexer, Span};
 use std::alloc::Global;
 use suite_base::Fail;
 
-/// A region: its statements, and the text that their spans lie in.
-#[derive(Drop)]
-pub struct Region<'a> {
-    pub source: &'a [u8],
-    pub nodes: Nodes<'a>,
-}
-
-/// The trees of the statements of the region at `span`, beside its source. The text has fewer than
-/// 2^32 - 1 bytes, the span lies in it, and `span.first` is the place of byte `span.from`.
+/// The tree of the region at `span`, beside its source. The text has fewer than 2^32 - 1 bytes, the
+/// span lies in it, and `span.first` is the place of byte `span.from`.
 ///
-/// The answer is `Ok` exactly where the span's tokens are derived to these trees by the grammar with at
-/// most 64 nests and 12 loops open at once, unless memory is wanting. Nests are brackets of any kind, the
-/// branches of an `if`, operands of unary signs, and what follows `?`. Memory is taken for the places of the
-/// statements alone, 16 bytes each; those in a loop, a branch or a block take none.
+/// The answer is a tree exactly where the span's tokens are derived to it by the grammar with at most 64
+/// nests and 12 loops open at once, unless memory is wanting. Nests are brackets of any kind, the
+/// branches of an `if`, operands of unary signs, and what follows `?`.
 ///
 /// A refusal has the place of the first token with which the rules do not go on; before it stand tokens of
 /// the grammar alone. `BadToken`: none begins there. `NumberTooLarge`: an integer above 2^127 - 1.
@@ -35,7 +28,6 @@ pub fn parse_region<'a>(alloc: Global, bytes: &'a [u8], span: Span) -> Result<Re
     requires order { span.from ≤ span.to }
     requires within { span.to ≤ length bytes.now }
     requires placed { span.first ≡ place_at bytes.now span.from }
-    ensures reads { spec.Parses bytes.now span result }
     ensures derived { IfOk result (λ found. spec.IsRegion bytes.now span found.nodes) }
     ensures complete { spec.Completes bytes.now span result }
     ensures cause { spec.HasReason bytes.now span result }
@@ -52,10 +44,10 @@ fn read<'a>(alloc: Global, bytes: &'a [u8], span: Span) -> Result<Region<'a>, Fa
     ensures { spec.Parses bytes.now span result }
 {
     let mut tokens = Tokens::new(Lexer::new(bytes, span));
-    match region_marks(alloc, &mut tokens) {
-        Ok(marks) => Ok(Region {
+    match region(alloc, &mut tokens) {
+        Ok(nodes) => Ok(Region {
             source: bytes,
-            nodes: Nodes::new(&bytes[..span.to], marks),
+            nodes,
         }),
         Err(stop) => Err(stop.fail()),
     }

@@ -6,12 +6,13 @@ ghost use Rattle.c_parser.specs.Statements as spec;
 
 use crate::heads::{assigned, loop_head, open_round};
 use crate::stops::Stop;
-use crate::symbols::Symbol;
+use crate::symbols::{Symbol, same_symbol};
 use crate::tokens::Tokens;
 use crate::tree::{Assign, Branch, Loop, Node, Piece};
 use crate::values::{inner_value, target, value};
 use sqlite_items::{Boxed, Items};
 use std::alloc::Global;
+use suite_base::List;
 
 /// How many nests and how many loops may be open at once.
 pub const MAX_NESTS: usize = 64;
@@ -38,7 +39,7 @@ fn assign(alloc: Global, tokens: &mut Tokens<'_>, nests: usize) -> Result<Assign
     })
 }
 
-pub fn begins_statement(symbol: Symbol) -> bool
+fn begins_statement(symbol: Symbol) -> bool
     ensures { result ≡ spec.begins_statement symbol }
 {
     match symbol {
@@ -222,4 +223,20 @@ fn body(alloc: Global, tokens: &mut Tokens<'_>, nests: usize, loops: usize) -> R
     ensures { Reads (spec.body nests loops tokens.old) result tokens.new }
 {
     statement(alloc, tokens, nests, loops - 1)
+}
+
+/// All statements of a region.
+pub fn region(alloc: Global, tokens: &mut Tokens<'_>) -> Result<List<Node>, Stop>
+    ensures { Reads (spec.region tokens.old) result tokens.new }
+{
+    let mut nodes = List::new(alloc);
+    for _turn in 0..tokens.left() {
+        if same_symbol(tokens.peek(), Symbol::End) {
+            return Ok(nodes);
+        }
+        let next = statement(alloc, tokens, MAX_NESTS, MAX_LOOPS)?;
+        nodes.push(next)?;
+    }
+    tokens.expect(Symbol::End)?;
+    Ok(nodes)
 }

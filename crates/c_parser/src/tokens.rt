@@ -1,7 +1,6 @@
 //! A cursor over the tokens of a region, which cuts each as it is reached.
 
 ghost use Rattle.std.specs.Prelude.{◌≡◌, ◌<◌, ◌≤◌, ◌^◌, length, OnOk};
-ghost use Rattle.c_lexer.specs.Places.{place_at};
 ghost use Rattle.c_lexer.specs.Readings.{Reading, slice};
 ghost use Rattle.c_parser.specs.Input as spec;
 ghost use Rattle.c_parser.specs.Statements as statement;
@@ -14,20 +13,13 @@ use c_lexer::{BadToken, Lexer};
 use std::marker::Model;
 use suite_base::{Place, Refusal};
 
-/// A place of a text to read on from: the number of bytes before it, and its line and column.
-#[derive(Clone, Copy, Debug, PartialEq, Eq)]
-pub struct Mark {
-    pub at: usize,
-    pub place: Place,
-}
-
 /// The tokens that are still to come, and what the first of them is.
 #[derive(Drop)]
 pub struct Tokens<'a> {
     /// Behind the next token.
     lexer: Lexer<'a>,
     /// The end of the last token that was taken.
-    mark: Mark,
+    at: usize,
     symbol: Symbol,
     from: usize,
     place: Place,
@@ -63,29 +55,17 @@ fn fetch(lexer: &mut Lexer<'_>) -> (Symbol, usize, Place)
     }
 }
 
-/// Where a lexer stands.
-fn mark_of(lexer: &Lexer<'_>) -> Mark
-    ensures at { result.at ≡ lexer.now.at }
-    ensures within { result.at ≤ length lexer.now.text }
-    ensures placed { result.place ≡ place_at lexer.now.text result.at }
-{
-    Mark {
-        at: lexer.at(),
-        place: lexer.place(),
-    }
-}
-
 impl<'a> Tokens<'a> {
     pub fn new(lexer: Lexer<'a>) -> Tokens<'a>
         requires { length lexer.text < 2 ^ 32 }
         ensures { result ≡ lexer.entry }
     {
         let mut lexer = lexer;
-        let mark = mark_of(&lexer);
+        let at = lexer.at();
         let (symbol, from, place) = fetch(&mut lexer);
         Tokens {
             lexer,
-            mark,
+            at,
             symbol,
             from,
             place,
@@ -109,16 +89,7 @@ impl<'a> Tokens<'a> {
     pub fn left(&self) -> usize
         ensures { result ≡ spec.left self.now }
     {
-        self.lexer.len().saturating_sub(self.mark.at) + 1
-    }
-
-    /// Where reading goes on: behind the last token that was taken.
-    pub fn mark(&self) -> Mark
-        ensures at { result.at ≡ self.now.at }
-        ensures within { result.at ≤ length self.now.text }
-        ensures placed { result.place ≡ place_at self.now.text result.at }
-    {
-        self.mark
+        self.lexer.len().saturating_sub(self.at) + 1
     }
 
     /// Takes the next token, whatever it is.
@@ -131,7 +102,7 @@ impl<'a> Tokens<'a> {
             from: self.from,
             to: self.lexer.at(),
         };
-        self.mark = mark_of(&self.lexer);
+        self.at = piece.to;
         let (symbol, from, place) = fetch(&mut self.lexer);
         self.symbol = symbol;
         self.from = from;

@@ -1,7 +1,14 @@
-//! The tree of a statement. Names, numbers and bodies in it are spans of the source.
+//! The tree of a region. Names, numbers and bodies in it are spans of the source.
 
 use sqlite_items::{Boxed, Items};
 use suite_base::List;
+
+/// A region: its statements, and the text that their spans lie in.
+#[derive(Drop)]
+pub struct Region<'a> {
+    pub source: &'a [u8],
+    pub nodes: List<Node>,
+}
 
 /// The bytes of the source from `from` up to `to`.
 #[derive(Clone, Copy, Debug, PartialEq, Eq)]

@@ -8,6 +8,7 @@ ghost use Rattle.c_parser.specs.Input.{Reads};
 ghost use Rattle.c_parser.specs.Values as spec;
 ghost use Rattle.c_parser.specs.Nests.{Nests};
 
+use crate::rooms::push_item;
 use crate::signs::{equal_sign, product_sign, rel_sign, sum_sign, unary_sign};
 use crate::stops::Stop;
 use crate::symbols::{Symbol, same_symbol};
@@ -53,7 +54,7 @@ impl<F: Fn(Global, &mut Tokens<'_>, usize, List<UnarySign>) -> Result<Unary, Sto
             };
             tokens.take();
             let item = self.unary(tokens, nests)?;
-            rest.push((sign, item))?;
+            push_item(self.alloc, &mut rest, (sign, item))?;
         }
         Err(tokens.refuse())
     }
@@ -85,7 +86,7 @@ impl<F: Fn(Global, &mut Tokens<'_>, usize, List<UnarySign>) -> Result<Unary, Sto
             };
             tokens.take();
             let item = self.product(tokens, nests)?;
-            rest.push((sign, item))?;
+            push_item(self.alloc, &mut rest, (sign, item))?;
         }
         Err(tokens.refuse())
     }
@@ -114,7 +115,7 @@ impl<F: Fn(Global, &mut Tokens<'_>, usize, List<UnarySign>) -> Result<Unary, Sto
             };
             tokens.take();
             let item = self.sum(tokens, nests)?;
-            rest.push((sign, item))?;
+            push_item(self.alloc, &mut rest, (sign, item))?;
         }
         Err(tokens.refuse())
     }
@@ -146,7 +147,7 @@ impl<F: Fn(Global, &mut Tokens<'_>, usize, List<UnarySign>) -> Result<Unary, Sto
             };
             tokens.take();
             let item = self.compare(tokens, nests)?;
-            rest.push((sign, item))?;
+            push_item(self.alloc, &mut rest, (sign, item))?;
         }
         Err(tokens.refuse())
     }
@@ -180,7 +181,7 @@ impl<F: Fn(Global, &mut Tokens<'_>, usize, List<UnarySign>) -> Result<Unary, Sto
         let mut items = Items::new(self.alloc);
         for _turn in 0..tokens.left() {
             let item = self.equal(tokens, nests)?;
-            items.push(item)?;
+            push_item(self.alloc, &mut items, item)?;
             if !tokens.eat(Symbol::And) {
                 return Ok(items);
             }
@@ -206,7 +207,7 @@ impl<F: Fn(Global, &mut Tokens<'_>, usize, List<UnarySign>) -> Result<Unary, Sto
         let mut items = Items::new(self.alloc);
         for _turn in 0..tokens.left() {
             let item = self.and_value(tokens, nests)?;
-            items.push(item)?;
+            push_item(self.alloc, &mut items, item)?;
             if !tokens.eat(Symbol::Or) {
                 return Ok(items);
             }
@@ -295,7 +296,7 @@ impl<F: Fn(Global, &mut Tokens<'_>, usize, List<UnarySign>) -> Result<Unary, Sto
                 return Ok(found);
             }
             let sum = self.subscript(tokens)?;
-            found.push(sum)?;
+            push_item(self.alloc, &mut found, sum)?;
         }
         Err(tokens.refuse())
     }
@@ -318,7 +319,7 @@ impl<F: Fn(Global, &mut Tokens<'_>, usize, List<UnarySign>) -> Result<Unary, Sto
         let mut items = Items::new(self.alloc);
         for _turn in 0..tokens.left() {
             let item = self.inner_value(tokens)?;
-            items.push(item)?;
+            push_item(self.alloc, &mut items, item)?;
             if !tokens.eat(Symbol::Comma) {
                 return Ok(items);
             }

@@ -11,9 +11,7 @@ mod systems;
 mod times;
 
 use nests::product;
-use regions::{
-    ASSIGNMENTS, LOOP_END, LOOP_HEAD, region_text, statement_count, subscript_count, token_count,
-};
+use regions::{assignments, statement_count, token_count};
 use runs::{level_times, nest_totals};
 use std::process::Abort;
 use std::test::Fail;
@@ -23,28 +21,15 @@ use times::{check_time, reduction_time};
 const ROUNDS: u32 = 1_000;
 
 fn main(rt: HostRuntime) -> Result<(), Fail> {
-    certificates(&rt)?;
-    matrix_product(&rt)?;
-    many_nests(&rt)?;
-    long_regions(&rt)?;
-    trees_of_a_region(&rt)?;
-    println!(rt; "the runs ended")?;
-    Ok(())
-}
-
-fn certificates(rt: &HostRuntime) -> Result<(), Fail> {
-    let (spent, light) = check_time(rt, rt.alloc())?;
+    let (spent, light) = check_time(&rt, rt.alloc())?;
     eprintln!(rt; "check of 256 rows and 62 columns: {spent} ns, {light} of 1,000 in the range")?;
-    Ok(())
-}
 
-fn matrix_product(rt: &HostRuntime) -> Result<(), Fail> {
     let base = product(rt.alloc())?;
-    let spent = reduction_time(rt, rt.alloc(), &base, ROUNDS)?;
+    let spent = reduction_time(&rt, rt.alloc(), &base, ROUNDS)?;
     eprintln!(rt; "matrix product: reduce {spent} ns")?;
     for pair in ["WAR 1 4", "RAW 4 1", "WAW 4 4"] {
         for level in 0..3 {
-            let t = level_times(rt, rt.alloc(), &base, level, ROUNDS)?;
+            let t = level_times(&rt, rt.alloc(), &base, level, ROUNDS)?;
             eprintln!(rt;
                 "{pair} level {}: decide {} ns, decide_by {} ns, decide_with {} ns, {}",
                 level + 1,
@@ -55,11 +40,8 @@ fn matrix_product(rt: &HostRuntime) -> Result<(), Fail> {
             )?;
         }
     }
-    Ok(())
-}
 
-fn many_nests(rt: &HostRuntime) -> Result<(), Fail> {
-    let t = nest_totals(rt, rt.alloc(), 1_000)?;
+    let t = nest_totals(&rt, rt.alloc(), 1_000)?;
     eprintln!(rt;
         "1,000 nests: decide {} us, decide_by {} us, reduce {} us, decide_with {} us",
         t.dense / 1_000,
@@ -71,37 +53,15 @@ fn many_nests(rt: &HostRuntime) -> Result<(), Fail> {
         "1,000 nests: {} with a point, {} empty, {} past a limit",
         t.points, t.empty, t.limits
     )?;
-    Ok(())
-}
-
-fn long_regions(rt: &HostRuntime) -> Result<(), Fail> {
-    let texts: [(&str, &[u8], usize, &[u8]); 3] = [
-        ("4 MiB of assignments", b"", ASSIGNMENTS / 4, b""),
-        ("16 MiB of assignments", b"", ASSIGNMENTS, b""),
-        ("16 MiB in one loop", LOOP_HEAD, ASSIGNMENTS, LOOP_END),
-    ];
-    for (words, begin, count, end) in texts {
-        let text = region_text(rt.alloc(), begin, count, end)?;
-        let start = Instant::now(rt)?;
-        let tokens = token_count(&text);
-        let lexing = start.elapsed(rt)?.as_micros();
-        let start = Instant::now(rt)?;
-        let statements = statement_count(rt.alloc(), &text);
-        let parsing = start.elapsed(rt)?.as_micros();
-        eprintln!(rt;
-            "{words}: {tokens} tokens lexed in {lexing} us, {statements} statements lexed and parsed in {parsing} us"
-        )?;
-    }
-    Ok(())
-}
-
-fn trees_of_a_region(rt: &HostRuntime) -> Result<(), Fail> {
-    let text = region_text(rt.alloc(), b"", ASSIGNMENTS, b"")?;
-    let start = Instant::now(rt)?;
-    let subscripts = subscript_count(rt.alloc(), &text);
-    let spent = start.elapsed(rt)?.as_micros();
-    eprintln!(rt;
-        "16 MiB of assignments: parsed, and the tree of each made, {subscripts} subscripts, in {spent} us"
-    )?;
+    let text = assignments(rt.alloc())?;
+    let start = Instant::now(&rt)?;
+    let tokens = token_count(&text);
+    let spent = start.elapsed(&rt)?.as_micros();
+    eprintln!(rt; "lexing of 16 MiB of assignments, {tokens} tokens: {spent} us")?;
+    let start = Instant::now(&rt)?;
+    let statements = statement_count(rt.alloc(), &text);
+    let spent = start.elapsed(&rt)?.as_micros();
+    eprintln!(rt; "lexing and parsing of the same, {statements} statements: {spent} us")?;
+    println!(rt; "the runs ended")?;
     Ok(())
 }

@@ -4,19 +4,13 @@ ghost use Rattle.std.specs.Prelude.{◌≡◌, ◌<◌, ◌≤◌, ◌-◌, ◌^
 ghost use Rattle.c_lexer.specs.Places.{place_at};
 
 use c_lexer::{Lexer, Span, find_region};
-use c_parser::{Node, Region, parse_region};
+use c_parser::parse_region;
 use std::alloc::Global;
 use suite_base::{NoMemory, Text};
 
 const ASSIGNMENT: &[u8] = b"  A[i] = B[i + 1] * 2;\n";
 
-/// As many of them as 16 MiB hold.
-pub const ASSIGNMENTS: usize = 729_000;
-
-/// What stands before and behind assignments that one loop repeats.
-pub const LOOP_HEAD: &[u8] = b"for (i = 0; i < N; i++) {\n";
-
-pub const LOOP_END: &[u8] = b"}\n";
+const ASSIGNMENTS: usize = 729_000;
 
 /// The region of a text, where it has one and the text is as short as the lexer wants it.
 fn region_span(bytes: &[u8]) -> Option<Span>
@@ -34,20 +28,13 @@ fn region_span(bytes: &[u8]) -> Option<Span>
     }
 }
 
-/// A text with a region: `begin`, so many assignments, and `end`.
-pub fn region_text(
-    alloc: Global,
-    begin: &[u8],
-    assignments: usize,
-    end: &[u8],
-) -> Result<Text, NoMemory> {
+/// A text of 16 MiB, less a little: a region of assignments.
+pub fn assignments(alloc: Global) -> Result<Text, NoMemory> {
     let mut text = Text::new(alloc);
     text.push_bytes(b"#pragma scop\n")?;
-    text.push_bytes(begin)?;
-    for _ in 0..assignments {
+    for _ in 0..ASSIGNMENTS {
         text.push_bytes(ASSIGNMENT)?;
     }
-    text.push_bytes(end)?;
     text.push_bytes(b"#pragma endscop\n")?;
     Ok(text)
 }
@@ -86,26 +73,4 @@ pub fn statement_count(alloc: Global, text: &Text) -> usize {
         },
         None => 0,
     }
-}
-
-/// The number of subscripts left of the signs of the region's assignments, counted in the tree of each; 0
-/// where the text is refused.
-pub fn subscript_count(alloc: Global, text: &Text) -> usize {
-    match region_span(text.bytes()) {
-        Some(span) => match parse_region(alloc, text.bytes(), span) {
-            Ok(region) => subscripts_in(alloc, &region),
-            Err(_) => 0,
-        },
-        None => 0,
-    }
-}
-
-fn subscripts_in(alloc: Global, region: &Region<'_>) -> usize {
-    let mut count: usize = 0;
-    for k in 0..region.nodes.len() {
-        if let Ok(Some(Node::Assign(assign))) = region.nodes.get(alloc, k) {
-            count = count.saturating_add(assign.target.subscripts.len());
-        }
-    }
-    count
 }

@@ -11,5 +11,5 @@ same_reading old text at e f =
 
 pub invariant_of-self : goal.invariant_of-self
 invariant_of-self c =
-    let q = same_reading c.self.inside.lexer _ _ c.fetch-symbol.ensures.text c.mark_of-self-inside.ensures.at in
-    (c.fetch-symbol.ensures.symbol ∙ ap symbol q, c.fetch-symbol.ensures.from ∙ ap start q, c.fetch-symbol.ensures.place ∙ ap here q, c.fetch-symbol.ensures.behind ∙ ap behind q, rw c.fetch-symbol.ensures.text c.self.invariant.4, rw c.fetch-symbol.ensures.text c.mark_of-self-inside.ensures.within, rw c.fetch-symbol.ensures.text c.mark_of-self-inside.ensures.placed)
+    let q = same_reading c.self.inside.lexer _ _ c.fetch-symbol.ensures.text c.at.ensures.value in
+    (c.fetch-symbol.ensures.symbol ∙ ap symbol q, c.fetch-symbol.ensures.from ∙ ap start q, c.fetch-symbol.ensures.place ∙ ap here q, c.fetch-symbol.ensures.behind ∙ ap behind q, rw c.fetch-symbol.ensures.text c.self.invariant.4)
