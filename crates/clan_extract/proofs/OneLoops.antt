@@ -44,7 +44,14 @@ meets_bounds start N v [] e m = let first = m.0 in let second = m.1.0 in (omega 
 meets_bounds start N v (x ∷ xs) e m = absurd (omega (arith, e))
 
 lies_in : (start : ℕ) (N v : ℤ) → pos start ≤ℤ v → v <ℤ N → LiesIn (one_loop_domain start) (v ∷ []) [] (N ∷ [])
-lies_in start N v low high = record { locals = []; length_is = refl; meets = (omega (arith, ints), (omega (arith, ints), tt)) }
+lies_in start N v low high = record {
+  outputs_are = refl;
+  inputs_are = refl;
+  parameters_are = refl;
+  locals = [];
+  locals_are = refl;
+  meets = (omega (arith, ints), (omega (arith, ints), tt));
+}
 
 module _ (l : OneLoop) (N : ℤ) where
   -- the instances are those at such values
@@ -52,7 +59,7 @@ module _ (l : OneLoop) (N : ℤ) where
       → (v : ℤ) × (pos l.start ≤ℤ v) × (v <ℤ N) × (instance_at v ≡ record { statement = k; values = x })
   instance_bounds zero x h = absurd h
   instance_bounds (suc zero) [] h = absurd (omega (arith, h.0))
-  instance_bounds (suc zero) (v ∷ []) (e, inl d) = let b = meets_bounds l.start N v d.locals d.length_is d.meets in (v, b.0, b.1, refl)
+  instance_bounds (suc zero) (v ∷ []) (e, inl d) = let b = meets_bounds l.start N v d.locals d.locals_are d.meets in (v, b.0, b.1, refl)
   instance_bounds (suc zero) (v ∷ []) (e, inr d) = absurd d
   instance_bounds (suc zero) (v ∷ (w ∷ x)) h = absurd (omega (arith, h.0))
   instance_bounds (suc (suc k)) x h = absurd h

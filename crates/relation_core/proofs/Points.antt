@@ -1,10 +1,12 @@
 -- Points of joined and widened systems.
-use Rattle.std.specs.Prelude.{ℤ, pos, ◌+ℤ◌, ◌*ℤ◌, ℕ, zero, suc, ◌≤◌, ◌≡◌, List, [], ◌∷◌, ◌++◌, length, insert}
-use Rattle.std.proofs.Common.{arith, ap}
+use Rattle.std.specs.Prelude.{ℤ, pos, ◌+ℤ◌, ◌*ℤ◌, ℕ, zero, suc, ◌+◌, ◌≤◌, ◌≡◌, List, [], ◌∷◌, ◌++◌, length, insert}
+use Rattle.std.proofs.Common.{arith, ap, sym, ◌∙◌, subst}
 use Rattle.std.proofs.lemmas.Int.{ints}
+use Rattle.std.proofs.lemmas.List.{append_assoc, length-append}
 use Rattle.row_core.specs.Rows.{dot}
 use Rattle.relation_core.specs.declared.part_rows.PartRow.{PartRow}
-use Rattle.relation_core.specs.Points.{MeetsAll}
+use Rattle.relation_core.specs.Systems.{System, columns}
+use Rattle.relation_core.specs.Points.{MeetsAll, coordinates, LiesIn, HasPoint, MembersAreRationalPoints}
 
 -- a point meets two lists of rows exactly where it meets all rows of both
 pub meets_append : (a b : List PartRow) (v : List ℤ) → MeetsAll a v → MeetsAll b v → MeetsAll (a ++ b) v
@@ -28,3 +30,26 @@ dot_insert (c ∷ row) (x ∷ v) (suc k) z f g =
     let f1 : k ≤ length row = omega arith in
     let g1 : k ≤ length v = omega arith in
     ap (λ n. (c *ℤ x) +ℤ n) (dot_insert row v k z f1 g1)
+
+-- the coordinates are a point and its factor 1
+joined : (y x l n : List ℤ) → coordinates y x l n ≡ (y ++ (x ++ (l ++ n))) ++ pos 1 ∷ []
+joined y x l n =
+    ap (λ t. y ++ (x ++ t)) (sym (append_assoc l n (pos 1 ∷ [])))
+    ∙ (ap (λ t. y ++ t) (sym (append_assoc x (l ++ n) (pos 1 ∷ []))) ∙ sym (append_assoc y (x ++ (l ++ n)) (pos 1 ∷ [])))
+
+joined_length : (y x l n : List ℤ) → length (y ++ (x ++ (l ++ n))) ≡ length y + length x + length l + length n
+joined_length y x l n =
+    let a = length-append y (x ++ (l ++ n)) in
+    let b = length-append x (l ++ n) in
+    let c = length-append l n in
+    omega (arith, a, b, c)
+
+pub members_are_points : MembersAreRationalPoints
+members_are_points part y x n lies =
+    let l = lies.locals in
+    record {
+      at = y ++ (x ++ (l ++ n));
+      factor = pos 1;
+      length_is = joined_length y x l n ∙ omega (arith, lies.outputs_are, lies.inputs_are, lies.locals_are, lies.parameters_are);
+      point = record { positive = omega (arith, ints); meets = subst (λ v. MeetsAll part.rows v) (joined y x l n) lies.meets };
+    }

@@ -16,11 +16,15 @@ spaced z = 32 ∷ signed_decimal z
 abbrev pub spaced_count : ℕ → List ℕ
 spaced_count n = spaced (pos n)
 
--- the first line: rows, columns with the kind and the constant, outputs, inputs, locals, parameters
-abbrev pub header_line : ℕ → Shape → List ℕ
-header_line rows shape =
+-- the header: rows, columns with the kind and the constant, outputs, inputs, locals, parameters
+abbrev pub header_text : ℕ → Shape → List ℕ
+header_text rows shape =
     decimal rows ++ flat_map spaced_count
-    ((columns shape + 2) ∷ (shape.outputs ∷ (shape.inputs ∷ (shape.locals ∷ (shape.parameters ∷ []))))) ++ 10 ∷ []
+    ((columns shape + 2) ∷ (shape.outputs ∷ (shape.inputs ∷ (shape.locals ∷ (shape.parameters ∷ [])))))
+
+-- the header on a line
+abbrev pub header_line : ℕ → Shape → List ℕ
+header_line rows shape = header_text rows shape ++ 10 ∷ []
 
 -- the first number of a row: 0 for an equality, 1 for an inequality
 abbrev pub kind_digit : RowKind → ℕ
@@ -28,8 +32,12 @@ kind_digit Equal = 48
 kind_digit AtLeast = 49
 
 -- a row: its kind, then its entries
+abbrev pub row_text : PartRow → List ℕ
+row_text row = kind_digit row.kind ∷ flat_map spaced row.entries
+
+-- a row on a line
 abbrev pub row_line : PartRow → List ℕ
-row_line row = kind_digit row.kind ∷ flat_map spaced row.entries ++ 10 ∷ []
+row_line row = row_text row ++ 10 ∷ []
 
 -- a part: its numbers, then its rows
 abbrev pub part_layout : System → List ℕ

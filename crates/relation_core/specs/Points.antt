@@ -5,7 +5,7 @@ use Rattle.row_core.specs.Rows.{entry, dot, add_rows, scale}
 use Rattle.relation_core.specs.declared.part_rows.PartRow.{PartRow}
 use Rattle.relation_core.specs.declared.part_rows.RowKind.{RowKind}
 use Rattle.relation_core.specs.declared.part_rows.RowKind.TheVariants.{Equal, AtLeast}
-use Rattle.relation_core.specs.Systems.{System}
+use Rattle.relation_core.specs.Systems.{System, columns}
 
 -- a value is as a row's kind wants it
 abbrev pub Meets : RowKind → ℤ → Type 0
@@ -51,10 +51,14 @@ column_weight (l ∷ ls) (row ∷ rows) k = unsigned_abs (l *ℤ entry row.entri
 abbrev pub coordinates : List ℤ → List ℤ → List ℤ → List ℤ → List ℤ
 coordinates outputs inputs locals parameters = outputs ++ (inputs ++ (locals ++ (parameters ++ pos 1 ∷ [])))
 
--- a point lies in a part where integers for the locals exist with which every row holds
+-- a point lies in a part where it has one integer for each output, input and parameter, and integers
+-- for the locals exist with which every row holds
 pub record LiesIn (part : System) (outputs inputs parameters : List ℤ) : Type 0 where
+  pub outputs_are : length outputs ≡ part.shape.outputs
+  pub inputs_are : length inputs ≡ part.shape.inputs
+  pub parameters_are : length parameters ≡ part.shape.parameters
   pub locals : List ℤ
-  pub length_is : length locals ≡ part.shape.locals
+  pub locals_are : length locals ≡ part.shape.locals
   pub meets : MeetsAll part.rows (coordinates outputs inputs locals parameters)
 
 -- a point lies in a relation where it lies in some part
@@ -62,3 +66,8 @@ abbrev pub LiesInSome : List System → List ℤ → List ℤ → List ℤ → T
 LiesInSome [] outputs inputs parameters = ⊥
 LiesInSome (part ∷ parts) outputs inputs parameters =
     LiesIn part outputs inputs parameters ⊎ LiesInSome parts outputs inputs parameters
+
+-- a point that lies in a part is a rational point of its rows, with the values of the locals among its coordinates
+abbrev pub MembersAreRationalPoints : Type 0
+MembersAreRationalPoints = (part : System) (outputs inputs parameters : List ℤ)
+    → LiesIn part outputs inputs parameters → HasPoint (columns part.shape) part.rows

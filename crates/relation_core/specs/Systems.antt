@@ -1,5 +1,5 @@
 -- Systems of rows as data: a shape and a list of rows of that width.
-use Rattle.std.specs.Prelude.{ℤ, ℕ, ◌+◌, ◌<◌, ◌≤◌, ◌≡◌, List, [], ◌∷◌, ◌++◌, length, map, pos, insert}
+use Rattle.std.specs.Prelude.{ℤ, ℕ, ◌+◌, ◌<◌, ◌≤◌, ◌≡◌, List, [], ◌∷◌, ◌++◌, length, map, take, pos, insert}
 use Rattle.std.proofs.Common.{get_or}
 use Rattle.row_core.specs.Rows.{AreCoefficients}
 use Rattle.relation_core.specs.declared.shapes.Shape.{Shape}
@@ -48,6 +48,10 @@ no_rows shape = record { shape = shape; rows = [] }
 -- the system with one more row
 abbrev pub with_row : System → RowKind → List ℤ → System
 with_row part kind entries = record part { rows = part.rows ++ record { kind = kind; entries = entries } ∷ [] }
+
+-- the system with its first k rows alone
+abbrev pub truncated : ℕ → System → System
+truncated k part = record part { rows = take k part.rows }
 
 -- the rows of one system, then those of another
 abbrev pub conjoined : System → System → System

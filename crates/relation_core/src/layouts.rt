@@ -4,7 +4,7 @@ ghost use Rattle.std.specs.Prelude.{◌≡◌, ◌<◌, ◌≤◌, [], ◌∷◌
 ghost use Rattle.std.specs.List.{flat_map};
 ghost use Rattle.std.specs.Fmt.{decimal, signed_decimal};
 ghost use Rattle.relation_core.specs.Systems.{columns, HasLimits};
-ghost use Rattle.relation_core.specs.Layouts.{spaced, spaced_count, header_line, row_line, part_layout};
+ghost use Rattle.relation_core.specs.Layouts.{spaced, spaced_count, header_text, row_text, row_line, part_layout};
 
 use crate::part_rows::{PartRow, RowKind};
 use crate::parts::Part;
@@ -20,13 +20,22 @@ pub fn print_part(text: &mut Text, part: &Part) -> Result<(), NoMemory>
 {
     let mut lines = Text::new(part.allocator());
     push_header(&mut lines, part.shape(), part.row_count())?;
+    lines.push(b'\n')?;
     push_rows(&mut lines, part.rows())?;
     text.push_bytes(lines.bytes())
 }
 
+/// Appends a part's header without its newline: the numbers of rows, columns, outputs, inputs, locals
+/// and parameters. On want of memory some of it may have been appended.
+pub fn print_header(text: &mut Text, part: &Part) -> Result<(), NoMemory>
+    ensures { OnOk result (text.new ≡ text.old ++ header_text (length part.now.rows) part.now.shape) }
+{
+    push_header(text, part.shape(), part.row_count())
+}
+
 fn push_header(text: &mut Text, shape: Shape, rows: usize) -> Result<(), NoMemory>
     requires { HasLimits shape }
-    ensures { OnOk result (text.new ≡ text.old ++ header_line rows shape) }
+    ensures { OnOk result (text.new ≡ text.old ++ header_text rows shape) }
 {
     let columns = shape.outputs + shape.inputs + shape.locals + shape.parameters;
     text.push_number(rows as i128)?;
@@ -37,8 +46,7 @@ fn push_header(text: &mut Text, shape: Shape, rows: usize) -> Result<(), NoMemor
         shape.locals,
         shape.parameters,
     ];
-    push_counts(text, &counts)?;
-    text.push(b'\n')
+    push_counts(text, &counts)
 }
 
 fn push_counts(text: &mut Text, counts: &[usize]) -> Result<(), NoMemory>
@@ -54,20 +62,28 @@ fn push_rows(text: &mut Text, rows: &[PartRow]) -> Result<(), NoMemory>
     ensures { OnOk result (text.new ≡ text.old ++ flat_map row_line rows.now) }
 {
     for row in rows {
-        push_row(text, row)?;
+        push_line(text, row)?;
     }
     Ok(())
 }
 
-fn push_row(text: &mut Text, row: &PartRow) -> Result<(), NoMemory>
+fn push_line(text: &mut Text, row: &PartRow) -> Result<(), NoMemory>
     ensures { OnOk result (text.new ≡ text.old ++ row_line row.now) }
+{
+    print_row(text, row)?;
+    text.push(b'\n')
+}
+
+/// Appends a row without its newline: 0 for an equality or 1 for an inequality, then its entries. On
+/// want of memory some of it may have been appended.
+pub fn print_row(text: &mut Text, row: &PartRow) -> Result<(), NoMemory>
+    ensures { OnOk result (text.new ≡ text.old ++ row_text row.now) }
 {
     match row.kind {
         RowKind::Equal => text.push(b'0')?,
         RowKind::AtLeast => text.push(b'1')?,
     }
-    push_entries(text, &row.entries)?;
-    text.push(b'\n')
+    push_entries(text, &row.entries)
 }
 
 fn push_entries(text: &mut Text, entries: &DenseRow) -> Result<(), NoMemory>

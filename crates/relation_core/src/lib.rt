@@ -2,6 +2,7 @@
 //! locals, and unions of them.
 #![tactic(auto)]
 
+pub mod laws;
 mod layouts;
 mod part_rows;
 mod parts;
@@ -9,7 +10,7 @@ mod relations;
 mod row_lists;
 mod shapes;
 
-pub use layouts::print_part;
+pub use layouts::{print_header, print_part, print_row};
 pub use part_rows::{PartRow, RowKind};
 pub use parts::Part;
 pub use relations::Relation;

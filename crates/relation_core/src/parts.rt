@@ -2,7 +2,7 @@
 
 ghost use Rattle.std.specs.Prelude.{◌≡◌, ◌<◌, ◌≤◌, [], length, IfOk, OnOk, OnErr};
 ghost use Rattle.row_core.specs.Rows.{entry};
-ghost use Rattle.relation_core.specs.Systems.{width, HasLimits, IsWellFormed, row_at, no_rows, with_row, conjoined, with_local};
+ghost use Rattle.relation_core.specs.Systems.{width, HasLimits, IsWellFormed, row_at, no_rows, with_row, truncated, conjoined, with_local};
 
 use crate::part_rows::{PartRow, RowKind};
 use crate::row_lists::{copied, copied_with_zero};
@@ -52,6 +52,13 @@ impl Part {
         let _in_range = entries.len();
         self.rows.push(PartRow { kind, entries })?;
         Ok(())
+    }
+
+    /// Keeps the first `count` rows, or all where there are no more than that.
+    pub fn truncate(&mut self, count: usize)
+        ensures { self.new ≡ truncated count self.old }
+    {
+        self.rows.truncate(count);
     }
 
     /// Appends the rows of `other`, a part of the same shape. On want of memory the part is as

@@ -1,6 +1,6 @@
 //! Parts and relations at small systems, and their printed layout.
 
-use crate::{Part, Relation, RowKind, Shape, print_part};
+use crate::{Part, Relation, RowKind, Shape, print_header, print_part, print_row};
 use row_core::Coeff;
 use std::alloc::Global;
 use std::process::Abort;
@@ -35,6 +35,11 @@ fn prints(rt: &impl Abort, alloc: Global, part: &Part, wanted: &[u8]) -> Result<
         }
         [] => panic!(rt; "nothing is printed"),
     }
+    Ok(())
+}
+
+fn has(rt: &impl Abort, text: &Text, wanted: &[u8]) -> Result<(), Fail> {
+    assert_eq!(rt; text.bytes(), wanted);
     Ok(())
 }
 
@@ -89,6 +94,32 @@ fn joined_parts(rt: HostRuntime) -> Result<(), Fail> {
         &part,
         b"4 4 1 0 0 1\n1 1 0 0\n1 -1 1 -1\n1 1 0 0\n1 -1 1 -1\n",
     )
+}
+
+#[test]
+fn shortened_parts(rt: HostRuntime) -> Result<(), Fail> {
+    let mut part = upward(&rt, rt.alloc())?;
+    part.truncate(2);
+    assert_eq!(rt; part.row_count(), 2);
+    part.truncate(1);
+    prints(&rt, rt.alloc(), &part, b"1 4 1 0 0 1\n1 1 0 0\n")?;
+    part.truncate(3);
+    assert_eq!(rt; part.row_count(), 1);
+    part.truncate(0);
+    prints(&rt, rt.alloc(), &part, b"0 4 1 0 0 1\n")
+}
+
+#[test]
+fn texts_without_newlines(rt: HostRuntime) -> Result<(), Fail> {
+    let part = upward(&rt, rt.alloc())?;
+    let mut text = Text::new(rt.alloc());
+    print_header(&mut text, &part)?;
+    text.push(b'|')?;
+    for row in part.rows() {
+        print_row(&mut text, row)?;
+        text.push(b'|')?;
+    }
+    has(&rt, &text, b"2 4 1 0 0 1|1 1 0 0|1 -1 1 -1|")
 }
 
 #[test]

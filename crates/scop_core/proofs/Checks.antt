@@ -93,7 +93,7 @@ value_of_instance v [] e m = let low = m.0 in let high = m.1.0 in by_lt_z v (neg
 all_instances : (k : ℕ) (x : List ℤ) → IsInstance strips (negsuc 2 ∷ []) (record { statement = k; values = x }) → In (record { statement = k; values = x }) two_instances
 all_instances zero x h = absurd h
 all_instances (suc zero) [] h = absurd (omega (arith, h.0))
-all_instances (suc zero) (v ∷ []) (e, inl d) = elim (value_of_instance v d.locals d.length_is d.meets) as (λ _. In (instance_at v) two_instances) [
+all_instances (suc zero) (v ∷ []) (e, inl d) = elim (value_of_instance v d.locals d.locals_are d.meets) as (λ _. In (instance_at v) two_instances) [
   | inl f ↦ inl (ap (λ u. instance_at u) f)
   | inr f ↦ inr (inl (ap (λ u. instance_at u) f))
 ]
@@ -103,7 +103,7 @@ all_instances (suc (suc k)) x h = absurd h
 
 -- what holds at both instances: all rows, with no local
 abbrev lies_in : (v : ℤ) → MeetsAll from_minus_five.rows (coordinates (v ∷ []) [] [] (negsuc 2 ∷ [])) → IsInstance strips (negsuc 2 ∷ []) (instance_at v)
-lies_in v m = (refl, inl (record { locals = []; length_is = refl; meets = m }))
+lies_in v m = (refl, inl (record { outputs_are = refl; inputs_are = refl; parameters_are = refl; locals = []; locals_are = refl; meets = m }))
 
 only_instances : (a : Instance) → In a two_instances → IsInstance strips (negsuc 2 ∷ []) a
 only_instances a (inl e) = subst (λ b. IsInstance strips (negsuc 2 ∷ []) b) e (lies_in (negsuc 4) (omega (arith, ints), (omega (arith, ints), tt)))

@@ -188,8 +188,8 @@ lies_in part y x n solved ey ex en = (forth, back)
     forth : LiesIn part y x n → y ≡ outputs_at part x (floors_at part x n) n 0 part.shape.outputs
     forth lies =
         let l = lies.locals in
-        let right = right_of part y x l n solved (record { outputs_are = ey; inputs_are = ex; locals_are = lies.length_is; parameters_are = en }) lies.meets in
-        let floors : floors_at part x n ≡ l = floors_give part x l n 0 part.shape.locals solved lies.length_is (zero-add part.shape.locals) right.floors in
+        let right = right_of part y x l n solved (record { outputs_are = ey; inputs_are = ex; locals_are = lies.locals_are; parameters_are = en }) lies.meets in
+        let floors : floors_at part x n ≡ l = floors_give part x l n 0 part.shape.locals solved lies.locals_are (zero-add part.shape.locals) right.floors in
         let values : y ≡ outputs_at part x l n 0 part.shape.outputs
         = ext_get_or (pos 0) y (outputs_at part x l n 0 part.shape.outputs) (ey ∙ sym (outputs_length part x l n 0 part.shape.outputs))
         (λ k h. right.outputs k (omega arith) ∙ (ap (λ i. affine_at (value_at part i) x l n) (sym (zero-add k)) ∙ sym (outputs_entry part x l n 0 part.shape.outputs k (omega arith)))) in
@@ -206,7 +206,7 @@ lies_in part y x n solved ey ex en = (forth, back)
           outputs = λ k h. ap (λ t. entry t k) e ∙ (outputs_entry part x l n 0 part.shape.outputs k h ∙ ap (λ i. affine_at (value_at part i) x l n) (zero-add k));
           floors = λ k h. f.each k (omega arith) (omega arith) ∙ ap (λ d. floor_of d (size_at part k)) (affine_take (floor_at part k).value x l n k (floor_earlier part k (solved.floors k h)));
         } in
-        record { locals = l; length_is = count; meets = all_meet part.rows (coordinates y x l n) (row_meets part y x l n solved right) }
+        record { outputs_are = ey; inputs_are = ex; parameters_are = en; locals = l; locals_are = count; meets = all_meet part.rows (coordinates y x l n) (row_meets part y x l n solved right) }
 
 -- the value of a constant
 constant_at : (value : Affine) (x l n : List ℤ) → is_constant value ≡ true → affine_at value x l n ≡ value.constant
