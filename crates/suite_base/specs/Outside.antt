@@ -1,4 +1,5 @@
-use Rattle.std.specs.Prelude.{◌≡◌, ℕ, ◌-◌, ◌^◌, ◌<◌, ◌≤◌, ◌⊎◌, Option, Some, None, List, [], ◌∷◌, ◌++◌, length, take, drop, get_or, IsSomeAnd, if◌then◌else◌}
+use Rattle.std.specs.Prelude.{◌≡◌, ℕ, ◌+◌, ◌-◌, ◌^◌, ◌<◌, ◌≤◌, ◌⊎◌, Option, Some, None, List, [], ◌∷◌, ◌++◌, length, take, drop, get_or, min, IsSomeAnd, Bool, ◌==◌, if◌then◌else◌}
+use Rattle.std.specs.List.{list_any}
 use Rattle.std.specs.Str.{bytes_eq}
 
 -- a count of faults, kept in 64 bits, shows a fault: it rose, or it stands at its last value
@@ -46,3 +47,17 @@ TookUpTo n old now = (piece : List ℕ) × (length piece ≤ n) × Took old piec
 abbrev pub Under : Option (List (List ℕ × List ℕ)) → List ℕ → (List ℕ → Type 0) → Type 0
 Under None name P = Unit {0}
 Under (Some files) name P = IsSomeAnd (bytes_under name files) P
+
+-- ---- fakes that fail where a list says so
+
+-- one more than a count, which is kept in 64 bits and stands still at its last value
+abbrev pub one_more : ℕ → ℕ
+one_more count = min (count + 1) (2 ^ 64 - 1)
+
+-- the call of this number is one of those that fail
+abbrev pub is_listed : List ℕ → ℕ → Bool
+is_listed fails call = list_any (λ k. k == call) fails
+
+-- the count of faults behind a call: one more where the call is listed, else the same
+abbrev pub faults_after : List ℕ → ℕ → ℕ → ℕ
+faults_after fails call faults = if is_listed fails call then one_more faults else faults
