@@ -5,6 +5,8 @@ pub mod Memories
 pub mod Floors
 pub mod Stamps
 pub mod RunLaws
+pub mod Members
+pub mod LevelOrder
 pub mod SolvedForms
 pub mod SolvedShapes
 pub mod SolvedPieces
@@ -27,3 +29,4 @@ mod SolvedChecks
 pub mod Samples
 mod LayoutChecks
 mod Checks
+mod LevelChecks

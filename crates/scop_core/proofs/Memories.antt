@@ -110,7 +110,7 @@ record UsedAt (uses : List Use) (c : Cell) : Type 0 where
   among : In at uses
   cell_is : at.cell ≡ c
 
-in_either : {X : Type 0} (a : X) (xs ys : List X) → In a (xs ++ ys) → In a xs ⊎ In a ys
+pub in_either : {X : Type 0} (a : X) (xs ys : List X) → In a (xs ++ ys) → In a xs ⊎ In a ys
 in_either a [] ys i = inr i
 in_either a (x ∷ xs) ys (inl e) = inl (inl e)
 in_either a (x ∷ xs) ys (inr i) = elim (in_either a xs ys i) as (λ _. In a (x ∷ xs) ⊎ In a ys) [ inl j ↦ inl (inr j) | inr j ↦ inr j ]

@@ -110,15 +110,15 @@ one_length S n a b f e =
     ∙ interleaved_length s.schedule.betas (levels_of s.schedule a.values n) s.schedule.betas (levels_of s.schedule b.values n) refl (levels_length s.schedule a.values n ∙ sym (levels_length s.schedule b.values n))
     ∙ ap length (sym (stamp_is S n b s is_b))
 
-same_statement : (j k : ℕ) → (j ≡ k) ⊎ (j ≢ k)
-same_statement j k = by (j == k) refl
+pub same_number : (j k : ℕ) → (j ≡ k) ⊎ (j ≢ k)
+same_number j k = by (j == k) refl
   where
     by : (t : Bool) → (j == k) ≡ t → (j ≡ k) ⊎ (j ≢ k)
     by true e = inl ((Decides-eqb j k).0 e)
     by false e = inr (not_from_Decides (j == k) (Decides-eqb j k) e)
 
 pub stamps_ordered : StampsAreOrdered
-stamps_ordered S v n a b ia ib = by (same_statement a.statement b.statement)
+stamps_ordered S v n a b ia ib = by (same_number a.statement b.statement)
   where
     split : Before (stamp S n a) (stamp S n b) ⊎ Before (stamp S n b) (stamp S n a) → Before (stamp S n a) (stamp S n b) ⊎ (Before (stamp S n b) (stamp S n a) ⊎ (stamp S n a ≡ stamp S n b))
     split (inl h) = inl h

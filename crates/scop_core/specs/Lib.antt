@@ -2,11 +2,13 @@ pub mod Assembly
 pub mod Held
 pub mod KeptLimits
 pub mod Layouts
+pub mod LevelOrder
 pub mod Meaning
 pub mod Memory
 pub mod Order
 pub mod Printable
 pub mod ReadBack
+pub mod RunLaws
 pub mod ScopData
 pub mod Sequences
 pub mod SolvedForm

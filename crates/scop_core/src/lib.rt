@@ -14,6 +14,7 @@ mod limits;
 mod origins;
 mod raw_pieces;
 mod row_builders;
+pub mod run_laws;
 mod schedules;
 mod scops;
 mod solved_forms;
