@@ -3,3 +3,4 @@ pub mod Outside
 pub mod Numbers
 pub mod Words
 pub mod Refusals
+pub mod Limits

@@ -1,7 +1,7 @@
 //! Each public call once with ample memory, and the limit of one input.
 
 use crate::{
-    Fail, Failed, Files, Lines, List, MAX_INPUT, MemFiles, MemSink, MemSource, Place, ReadFail,
+    Fail, Failed, Files, Lines, List, MemFiles, MemSink, MemSource, Place, ReadFail,
     Refusal, Sink, Source, SureFiles, SureSink, SureSource, Text, Which, WordList, read_all,
     read_file, trimmed, write_all, write_pieces,
 };
@@ -140,12 +140,12 @@ fn newlines(alloc: Global, n: usize) -> Result<Text, TestFail> {
 
 #[test]
 fn inputs_have_a_limit(rt: HostRuntime) -> Result<(), TestFail> {
-    let mut most = SureSource::new(newlines(rt.alloc(), MAX_INPUT)?);
+    let mut most = SureSource::new(newlines(rt.alloc(), 16_777_216)?);
     assert_eq!(rt;
         read_all(rt.alloc(), &mut most).map(|text| text.len()),
-        Ok(MAX_INPUT)
+        Ok(16_777_216)
     );
-    let mut more = SureSource::new(newlines(rt.alloc(), MAX_INPUT + 1)?);
+    let mut more = SureSource::new(newlines(rt.alloc(), 16_777_217)?);
     assert_eq!(rt;
         read_all(rt.alloc(), &mut more).map(|text| text.len()),
         Err(ReadFail::TooLong)

@@ -2,7 +2,7 @@
 use Rattle.std.proofs.Common.{◌≡◌, ◌⊎◌, inl, inr, ℕ, ◌<◌, ◌≤◌, List, [], ◌∷◌, ◌++◌, Option, Some, None, IfSome, IsSomeAnd, Result, Ok, Err, OnOk, OnErr, length, refl, ap, ◌∙◌, subst, arith}
 use Rattle.std.proofs.lemmas.List.{append-nil}
 use Rattle.suite_base.specs.Outside.{IsMissing, Under, Wrote, WrotePart}
-use Rattle.suite_base.specs.declared.reading.TheConstants.{MAX_INPUT}
+use Rattle.suite_base.specs.Limits.{max_input}
 use Rattle.suite_base.specs.declared.refusals.Refusal.{Refusal}
 use Rattle.suite_base.specs.declared.refusals.Refusal.TheVariants.{NoRegion, OutsideFirstPath, TooLong}
 use Rattle.scop_core.specs.ScopData.{ScopData}
@@ -100,9 +100,9 @@ either_cause : (command : Command) (before now : World) (refusal : Refusal) → 
 either_cause command before now TooLong h = inl h
 either_cause command before now refusal h = inr h
 
-no_length : (command : Command) (before : World) (bytes : List ℕ) → Tells before.held before.left (file_of command) bytes → length bytes ≤ MAX_INPUT → ¬ IsTooLong command before
+no_length : (command : Command) (before : World) (bytes : List ℕ) → Tells before.held before.left (file_of command) bytes → length bytes ≤ max_input → ¬ IsTooLong command before
 no_length command before bytes told short h =
-    let long : MAX_INPUT < length bytes = named_by before.held before.left (file_of command) bytes (λ b. MAX_INPUT < length b) told h in
+    let long : max_input < length bytes = named_by before.held before.left (file_of command) bytes (λ b. max_input < length b) told h in
     omega arith
 
 no_text_refusal : (command : Command) (before now : World) (bytes : List ℕ) (refusal : Refusal) → Tells before.held before.left (file_of command) bytes → Takes command bytes → ¬ IsRefused command before now refusal
@@ -112,7 +112,7 @@ no_text_refusal command before now bytes refusal told taken h =
     not_refused command bytes refusal taken (subst P same h.refused)
 
 -- a complete file has no refusal
-no_refusal : (command : Command) (before now : World) (bytes : List ℕ) (refusal : Refusal) → Tells before.held before.left (file_of command) bytes → length bytes ≤ MAX_INPUT → Takes command bytes
+no_refusal : (command : Command) (before now : World) (bytes : List ℕ) (refusal : Refusal) → Tells before.held before.left (file_of command) bytes → length bytes ≤ max_input → Takes command bytes
     → ¬ RefusalCause command before now refusal
 no_refusal command before now bytes refusal told short taken h =
     elim (either_cause command before now refusal h) [
@@ -121,7 +121,7 @@ no_refusal command before now bytes refusal told short taken h =
     ]
 
 -- what the outcome tells of a complete file
-complete_for : (command : Command) (before now : World) (outcome : Outcome) (bytes : List ℕ) → Tells before.held before.left (file_of command) bytes → length bytes ≤ MAX_INPUT → Takes command bytes
+complete_for : (command : Command) (before now : World) (outcome : Outcome) (bytes : List ℕ) → Tells before.held before.left (file_of command) bytes → length bytes ≤ max_input → Takes command bytes
     → ¬ IsReadFaulty (opening_of before now) (reading_of before now) (file_of command) → ¬ Faulty (writing_of before now)
     → CommandAnswers command before now outcome → (outcome ≡ Done) ⊎ (outcome ≡ Memory)
 complete_for command before now Done bytes t s k r w h = inl refl

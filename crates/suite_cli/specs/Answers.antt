@@ -1,7 +1,7 @@
 -- What each outcome of a run tells of what was read and written.
 use Rattle.std.specs.Prelude.{◌≡◌, ◌⊎◌, ℕ, ◌<◌, ◌≤◌, List, Option, length, Some, true}
 use Rattle.suite_base.specs.Outside.{Took, Wrote, WrotePart}
-use Rattle.suite_base.specs.declared.reading.TheConstants.{MAX_INPUT}
+use Rattle.suite_base.specs.Limits.{max_input}
 use Rattle.suite_base.specs.declared.refusals.Fail.{Fail}
 use Rattle.suite_base.specs.declared.refusals.Fail.TheVariants as fail
 use Rattle.suite_base.specs.declared.refusals.Refusal.{Refusal}
@@ -50,7 +50,7 @@ NamedIn before file P = Named before.held before.left file P
 pub record ReadWhole (before now : World) (file text : List ℕ) : Type 0 where
   pub whole : NamedIn before file (λ bytes. text ≡ bytes)
   pub took : is_input file ≡ true → Took before.left text now.left
-  pub short : length text ≤ MAX_INPUT
+  pub short : length text ≤ max_input
 
 -- the SCoP of the loop with these words, and the C region that the loop is
 abbrev pub scop_of : LoopWords → ScopData
@@ -117,7 +117,7 @@ pub record WritesPart (command : Command) (before now : World) : Type 0 where
 
 -- the file is longer than an input may be
 abbrev pub IsTooLong : Command → World → Type 0
-IsTooLong command before = NamedIn before (file_of command) (λ bytes. MAX_INPUT < length bytes)
+IsTooLong command before = NamedIn before (file_of command) (λ bytes. max_input < length bytes)
 
 -- the file was read whole, and the command refuses it
 pub record IsRefused (command : Command) (before now : World) (refusal : Refusal) : Type 0 where
@@ -160,7 +160,7 @@ pub record IsComplete (words : List (List ℕ)) (before now : World) : Type 0 wh
   pub bytes : List ℕ
   pub asked : Words words command
   pub told : Tells before.held before.left (file_of command) bytes
-  pub short : length bytes ≤ MAX_INPUT
+  pub short : length bytes ≤ max_input
   pub taken : Takes command bytes
   pub read : ¬ IsReadFaulty (opening_of before now) (reading_of before now) (file_of command)
   pub wrote : ¬ Faulty (writing_of before now)

@@ -1,12 +1,13 @@
 //! Words that name files: `-` is standard input, another is the name of a file.
 
 ghost use Rattle.std.specs.Prelude.{◌≡◌, ◌<◌, ◌≤◌, true, false, length, IfOk, IfErr};
+ghost use Rattle.suite_base.specs.Limits.{max_input};
 ghost use Rattle.suite_base.specs.Outside.{Took};
 ghost use Rattle.suite_cli.specs.Commands as spec;
 ghost use Rattle.suite_cli.specs.Reads as reads;
 
 use std::alloc::Global;
-use suite_base::{Files, MAX_INPUT, ReadFail, Source, Text, read_all, read_file};
+use suite_base::{Files, ReadFail, Source, Text, read_all, read_file};
 
 /// Whether the word is `-`.
 pub fn is_input(word: &str) -> bool
@@ -30,7 +31,7 @@ pub fn is_file_word(word: &str) -> bool
 
 /// Reads what the word names to its end: standard input under `-`, else the file of this name.
 /// `Fault` comes only by a counted fault of the one that is read, or where the files are told and none
-/// has the name; `TooLong` where there are more bytes than [`MAX_INPUT`].
+/// has the name; `TooLong` where there are more than 16,777,216 bytes.
 pub fn read_named<F: Files, I: Source>(
     alloc: Global,
     file: &str,
@@ -39,9 +40,9 @@ pub fn read_named<F: Files, I: Source>(
 ) -> Result<Text, ReadFail>
     ensures whole { IfOk result (λ text. reads.Named (F.held files.old) (I.left input.old) file.now (λ bytes. text ≡ bytes)) }
     ensures took { IfOk result (λ text. spec.is_input file.now ≡ true → Took (I.left input.old) text (I.left input.new)) }
-    ensures short { IfOk result (λ text. length text ≤ MAX_INPUT) }
+    ensures short { IfOk result (λ text. length text ≤ max_input) }
     ensures fault { IfErr result (λ fail. fail ≡ ReadFail.Fault → reads.FaultCause (F.held files.old) (record { before = F.faults files.old; now = F.faults files.new }) (record { before = I.faults input.old; now = I.faults input.new }) file.now) }
-    ensures long { IfErr result (λ fail. fail ≡ ReadFail.TooLong → reads.Named (F.held files.old) (I.left input.old) file.now (λ bytes. MAX_INPUT < length bytes)) }
+    ensures long { IfErr result (λ fail. fail ≡ ReadFail.TooLong → reads.Named (F.held files.old) (I.left input.old) file.now (λ bytes. max_input < length bytes)) }
     ensures held { F.held files.new ≡ F.held files.old }
     ensures untouched { spec.is_input file.now ≡ true → files.new ≡ files.old }
     ensures unread { spec.is_input file.now ≡ false → I.left input.new ≡ I.left input.old }

@@ -2,6 +2,7 @@
 
 ghost use Rattle.std.specs.Prelude.{◌≡◌, ◌≤◌, IfOk, IfErr, length, true, false, Some};
 ghost use Rattle.scop_reader.specs.Texts.{fault};
+ghost use Rattle.suite_base.specs.Limits.{max_input};
 ghost use Rattle.suite_cli.specs.FirstForm.{IsRefusal};
 ghost use Rattle.suite_cli.specs.Answers as spec;
 ghost use Rattle.suite_cli.specs.Commands as command;
@@ -14,9 +15,7 @@ use crate::translations::translation;
 use scop_reader::read_scop;
 use scop_writer::print_scop;
 use std::alloc::Global;
-use suite_base::{
-    Fail, Files, MAX_INPUT, ReadFail, Refusal, Sink, Source, Text, WordList, write_all,
-};
+use suite_base::{Fail, Files, ReadFail, Refusal, Sink, Source, Text, WordList, write_all};
 
 /// Does the work that the words ask for: reads its file, builds the whole output, and writes it.
 pub fn run<F: Files, I: Source, O: Sink>(
@@ -70,7 +69,7 @@ fn run_work<F: Files, I: Source, O: Sink>(
 
 /// The output that the work makes of a text.
 fn output_of(alloc: Global, work: &Work<'_>, bytes: &[u8]) -> Result<Text, Fail>
-    requires short { length bytes.now ≤ MAX_INPUT }
+    requires short { length bytes.now ≤ max_input }
     ensures ok { IfOk result (λ output. spec.Makes (command.command_of work.now) bytes.now output) }
     ensures err { IfErr result (λ fail. spec.FailCause (spec.Refuses (command.command_of work.now) bytes.now) fail) }
 {
@@ -99,7 +98,7 @@ fn translated(alloc: Global, bytes: &[u8]) -> Result<Text, Fail>
 
 /// The SCoP of a text, as it is printed.
 fn printed(alloc: Global, bytes: &[u8]) -> Result<Text, Fail>
-    requires short { length bytes.now ≤ MAX_INPUT }
+    requires short { length bytes.now ≤ max_input }
     ensures ok { IfOk result (λ output. spec.Prints bytes.now output) }
     ensures err { IfErr result (λ fail. spec.FailCause (λ refusal. fault bytes.now ≡ Some refusal) fail) }
 {

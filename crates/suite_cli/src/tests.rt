@@ -7,7 +7,7 @@ use crate::test_runs::{
 use std::alloc::Global;
 use std::process::Abort;
 use std::test::Fail;
-use suite_base::{MAX_INPUT, NoMemory, Refusal, Text};
+use suite_base::{NoMemory, Refusal, Text};
 
 const OTHER_LOOP: &[u8] =
     b"\r\n # pragma \t scop\r\n\n  for (i = 3; i < M; i++) \r\nB[i] = 7;\r\n \t\n#pragma   endscop";
@@ -236,8 +236,8 @@ fn newlines(alloc: Global, n: usize) -> Result<Text, NoMemory> {
 #[test]
 fn files_have_a_limit(rt: HostRuntime) -> Result<(), Fail> {
     let rows: [(usize, &[u8]); 2] = [
-        (MAX_INPUT, b"suite: refused 1 2 NoRegion\n"),
-        (MAX_INPUT + 1, b"suite: refused 1 1 TooLong\n"),
+        (16_777_216, b"suite: refused 1 2 NoRegion\n"),
+        (16_777_217, b"suite: refused 1 1 TooLong\n"),
     ];
     for (n, message) in rows {
         let run = run_file(rt.alloc(), "clan", newlines(rt.alloc(), n)?, NO_FAILS)?;
