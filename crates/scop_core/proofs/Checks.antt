@@ -11,7 +11,7 @@ use Rattle.scop_core.specs.declared.statements.Statement.{Statement}
 use Rattle.scop_core.specs.ScopData.{ScopData}
 use Rattle.scop_core.specs.Sequences.{In}
 use Rattle.scop_core.specs.Memory.{Cell, Term, Initial, App, NoTerms, More, initial, Use, Event, step_of}
-use Rattle.scop_core.specs.Meaning.{Instance, IsInstance, floor_of, interleaved, stamp, Touch, Run, final}
+use Rattle.scop_core.specs.Meaning.{InContext, Instance, IsInstance, floor_of, interleaved, stamp, Touch, Run, final}
 
 -- floors of negative quotients
 floor_of_minus_five : floor_of (negsuc 4) (pos 4) ≡ negsuc 1
@@ -71,6 +71,13 @@ strips = record {
   arrays = None;
   extensions = [];
 }
+
+-- a context without rows has every value of its one parameter, and no list of another length
+any_in_context : (v : ℤ) → InContext strips (v ∷ [])
+any_in_context v = record { outputs_are = refl; inputs_are = refl; parameters_are = refl; locals = []; locals_are = refl; meets = tt }
+
+not_in_context : InContext strips [] → ⊥
+not_in_context h = absurd (omega (arith, h.parameters_are))
 
 abbrev instance_at : ℤ → Instance
 instance_at v = record { statement = 1; values = v ∷ [] }

@@ -3,7 +3,7 @@
 use Rattle.std.specs.Prelude.{◌≡◌, ℕ, zero, suc, List, [], ◌∷◌, ◌++◌, map, length, ℤ, ◌+ℤ◌, Option, Some, None, IsSomeAnd, slice_get}
 use Rattle.std.specs.Int.{int_div_euclid}
 use Rattle.row_core.specs.Rows.{dot}
-use Rattle.relation_core.specs.Points.{LiesInSome}
+use Rattle.relation_core.specs.Points.{LiesIn, LiesInSome}
 use Rattle.scop_core.specs.declared.affines.Affine.{Affine}
 use Rattle.scop_core.specs.declared.accesses.Access.{Access}
 use Rattle.scop_core.specs.declared.schedules.Floor.{Floor}
@@ -13,6 +13,10 @@ use Rattle.scop_core.specs.ScopData.{ScopData}
 use Rattle.scop_core.specs.Order.{Before}
 use Rattle.scop_core.specs.Sequences.{RunOf, fold_steps}
 use Rattle.scop_core.specs.Memory.{Memory, initial, Use, Event, EventsTouch, step_of}
+
+-- the parameter values n are in context: they lie in the context, which has no other columns
+abbrev pub InContext : ScopData → List ℤ → Type 0
+InContext S n = LiesIn S.context [] [] n
 
 -- one execution of a statement: the statement's number, from 1, and the values of its iterators
 pub record Instance : Type 0 where
