@@ -2,6 +2,7 @@ pub mod RowLists
 pub mod Orders
 pub mod Reordering
 pub mod Memories
+pub mod FloorRows
 pub mod Floors
 pub mod Stamps
 pub mod RunLaws

@@ -7,7 +7,7 @@ use Rattle.scop_core.specs.declared.schedules.Schedule.{Schedule}
 use Rattle.scop_core.specs.declared.accesses.AccessKind.TheVariants.{Write}
 use Rattle.scop_core.specs.declared.accesses.Access.{Access}
 use Rattle.scop_core.specs.SolvedForm.{is_scattering, schedule_of, is_access, access_of}
-use Rattle.scop_core.specs.SolvedRows.{schedule_part, access_part}
+use Rattle.scop_core.specs.SolvedRows.{floor_part, schedule_part, access_part}
 use Rattle.scop_core.specs.Meaning.{stamp_of, use_at}
 use Rattle.scop_core.specs.SolvedLaws.{cell_list}
 
@@ -82,6 +82,13 @@ printed_schedule = refl
 
 strips_printed : schedule_part 1 0 strips ≡ printed
 strips_printed = refl
+
+-- the rows of its floor alone: the iterator, the floor, the constant
+floor_printed : floor_part 1 0 strips.floors ≡ record {
+  shape = record { outputs = 0; inputs = 1; locals = 1; parameters = 0 };
+  rows = at_least (one ∷ (negsuc 3 ∷ (n ∷ []))) ∷ (at_least (minus ∷ (pos 4 ∷ (pos 3 ∷ []))) ∷ []);
+}
+floor_printed = refl
 
 shuffled_is_scattering : is_scattering shuffled ≡ true
 shuffled_is_scattering = refl

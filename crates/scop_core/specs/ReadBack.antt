@@ -10,13 +10,20 @@ use Rattle.scop_core.specs.declared.statements.Statement.{Statement}
 use Rattle.scop_core.specs.declared.raw_pieces.RawStatement.{RawStatement}
 use Rattle.scop_core.specs.declared.raw_pieces.ScopPieces.{ScopPieces}
 use Rattle.scop_core.specs.ScopData.{ScopData}
-use Rattle.scop_core.specs.SolvedRows.{schedule_part, access_part, HasRelation, HasAccessRelation}
+use Rattle.scop_core.specs.SolvedRows.{schedule_part, access_part, HasSizes, HasRelation, HasAccessRelation}
 use Rattle.scop_core.specs.Assembly.{refusal_of, scop_of}
 use Rattle.scop_core.specs.Printable.{IsPrintable}
 
 -- the value of a floor has coefficient 0 for the floors from place k on
 abbrev pub UsesEarlier : ℕ → Floor → Type 0
 UsesEarlier k floor = (j : ℕ) → k ≤ j → entry floor.value.floors j ≡ pos 0
+
+-- floors with forms over so many iterators and parameters and all of the floors; each has a size of at
+-- least 1 and uses earlier floors alone
+pub record AreSolvedFloors (iterators parameters : ℕ) (floors : List Floor) : Type 0 where
+  pub forms : All (λ floor. HasSizes iterators (length floors) parameters floor.value) floors
+  pub sizes : All (λ floor. pos 1 ≤ℤ floor.size) floors
+  pub earlier : (k : ℕ) (floor : Floor) → k < length floors → UsesEarlier k (get_or floors k floor)
 
 -- a schedule that can be printed, in which each floor has a size of at least 1 and uses earlier floors alone
 pub record IsSolvedSchedule (iterators parameters : ℕ) (schedule : Schedule) : Type 0 where

@@ -1,20 +1,21 @@
 -- The laws of the solved form: what is printed reads back, and means what its rows mean.
-use Rattle.std.specs.Prelude.{◌≡◌, ◌↔◌, ℕ, ℤ, true, None, List, ◌∷◌, length, All}
-use Rattle.relation_core.specs.Points.{LiesIn}
+use Rattle.std.specs.Prelude.{◌≡◌, ◌↔◌, ℕ, ℤ, true, None, List, [], ◌∷◌, length, All}
+use Rattle.relation_core.specs.Points.{MeetsAll, coordinates, LiesIn}
 use Rattle.relation_core.specs.Systems.{System, IsWellFormed}
+use Rattle.scop_core.specs.declared.schedules.Floor.{Floor}
 use Rattle.scop_core.specs.declared.schedules.Schedule.{Schedule}
 use Rattle.scop_core.specs.declared.accesses.AccessKind.{AccessKind}
 use Rattle.scop_core.specs.declared.accesses.Access.{Access}
 use Rattle.scop_core.specs.declared.raw_pieces.ScopPieces.{ScopPieces}
 use Rattle.scop_core.specs.ScopData.{ScopData}
 use Rattle.scop_core.specs.SolvedForm.{is_scattering, schedule_of, is_access, access_of}
-use Rattle.scop_core.specs.SolvedRows.{schedule_part, access_part}
+use Rattle.scop_core.specs.SolvedRows.{floor_part, schedule_part, access_part}
 use Rattle.scop_core.specs.Assembly.{refusal_of, scop_of}
 use Rattle.scop_core.specs.Printable.{IsPrintable}
 use Rattle.scop_core.specs.Memory.{Cell}
-use Rattle.scop_core.specs.Meaning.{stamp_of, use_at}
+use Rattle.scop_core.specs.Meaning.{floors_after, stamp_of, use_at}
 use Rattle.scop_core.specs.Validity.{IsValid}
-use Rattle.scop_core.specs.ReadBack.{IsSolvedSchedule, IsSolvedAccess, IsSolvedStatement, ReadBack}
+use Rattle.scop_core.specs.ReadBack.{AreSolvedFloors, IsSolvedSchedule, IsSolvedAccess, IsSolvedStatement, ReadBack}
 
 -- the rows of a schedule are a scattering in solved form, and that schedule
 abbrev pub ScheduleReadsBack : Type 0
@@ -50,6 +51,12 @@ abbrev pub SolvedScheduleMeansItsRelation : Type 0
 SolvedScheduleMeansItsRelation = (part : System) → IsWellFormed part.shape part.rows → is_scattering part ≡ true → (y x n : List ℤ)
     → length y ≡ part.shape.outputs → length x ≡ part.shape.inputs → length n ≡ part.shape.parameters
     → LiesIn part y x n ↔ (y ≡ stamp_of (schedule_of part) x n)
+
+-- the rows of floors hold exactly where each local is the value of its floor
+abbrev pub FloorRowsMeanFloors : Type 0
+FloorRowsMeanFloors = (iterators parameters : ℕ) (floors : List Floor) → AreSolvedFloors iterators parameters floors → (x l n : List ℤ)
+    → length x ≡ iterators → length l ≡ length floors → length n ≡ parameters
+    → MeetsAll (floor_part iterators parameters floors).rows (coordinates [] x l n) ↔ (l ≡ floors_after [] floors x n)
 
 -- a cell as a list: the identifier of its array, then its subscripts
 abbrev pub cell_list : Cell → List ℤ

@@ -1,5 +1,5 @@
 -- The rows of schedules and accesses in solved form, as they are printed.
-use Rattle.std.specs.Prelude.{ℤ, pos, negsuc, neg_ℤ, ◌+ℤ◌, ℕ, ◌+◌, ◌-◌, ◌*◌, ◌^◌, ◌<◌, ◌≤◌, ◌≡◌, List, [], ◌∷◌, ◌++◌, length, map, take, drop, replicate, get_or, unsigned_abs, All}
+use Rattle.std.specs.Prelude.{ℤ, pos, negsuc, neg_ℤ, ◌+ℤ◌, ℕ, ◌+◌, ◌-◌, ◌*◌, ◌^◌, ◌<◌, ◌≡◌, List, [], ◌∷◌, ◌++◌, length, map, take, drop, replicate, get_or, unsigned_abs, All}
 use Rattle.row_core.specs.Rows.{entry}
 use Rattle.relation_core.specs.Systems.{System, HasLimits}
 use Rattle.relation_core.specs.declared.shapes.Shape.{Shape}
@@ -67,6 +67,22 @@ high_row shape k floor = record {
 abbrev pub floor_rows : Shape → ℕ → List Floor → List PartRow
 floor_rows shape k [] = []
 floor_rows shape k (floor ∷ floors) = low_row shape k floor ∷ (high_row shape k floor ∷ floor_rows shape (k + 1) floors)
+
+-- the columns of floors alone: iterators and parameters, one local for each floor, and no outputs
+abbrev pub floor_shape : ℕ → ℕ → List Floor → Shape
+floor_shape iterators parameters floors = record {
+  outputs = 0;
+  inputs = iterators;
+  locals = length floors;
+  parameters = parameters;
+}
+
+-- the rows of floors as a part of their own
+abbrev pub floor_part : ℕ → ℕ → List Floor → System
+floor_part iterators parameters floors = record {
+  shape = floor_shape iterators parameters floors;
+  rows = floor_rows (floor_shape iterators parameters floors) 0 floors;
+}
 
 -- the columns of a scattering: one output for each beta and each level, one local for each floor
 abbrev pub schedule_shape : ℕ → ℕ → Schedule → Shape

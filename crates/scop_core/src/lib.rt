@@ -17,6 +17,7 @@ mod row_builders;
 pub mod run_laws;
 mod schedules;
 mod scops;
+pub mod shape_laws;
 mod solved_forms;
 mod solved_parts;
 mod solved_tests;
@@ -31,5 +32,7 @@ pub use schedules::{Floor, Schedule};
 pub use scops::Scop;
 pub use statements::{Body, Extension, Statement};
 
+#[cfg(test)]
+mod floor_tests;
 #[cfg(test)]
 mod tests;

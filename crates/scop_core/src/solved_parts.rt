@@ -1,7 +1,7 @@
 //! Schedules and accesses as relations: the rows that they are printed as.
 
 ghost use Rattle.std.specs.Prelude.{unsigned_abs, ◌≡◌, ◌<◌, ◌≤◌, ◌^◌, ◌+◌, ◌*◌, ◌+ℤ◌, pos, negsuc, neg_ℤ, [], ◌∷◌, ◌++◌, length, IfOk, OnOk, All};
-ghost use Rattle.scop_core.specs.SolvedRows.{value_row, constant_row, low_row, high_row, dimension_rows, floor_rows, value_rows, schedule_part, schedule_shape, schedule_rows, access_part, access_shape, HasSizes, PairFits, HasRelation, HasAccessRelation};
+ghost use Rattle.scop_core.specs.SolvedRows.{value_row, constant_row, low_row, high_row, dimension_rows, floor_rows, floor_part, value_rows, schedule_part, schedule_shape, schedule_rows, access_part, access_shape, HasSizes, PairFits, HasRelation, HasAccessRelation};
 
 use crate::accesses::Access;
 use crate::affines::Affine;
@@ -126,7 +126,7 @@ fn push_dimension_rows(alloc: Global, part: &mut Part, schedule: &Schedule) -> R
 
 /// Appends the two rows of each floor.
 fn push_floor_rows(alloc: Global, part: &mut Part, schedule: &Schedule) -> Result<(), NoMemory>
-    requires shape { part.old.shape ≡ schedule_shape part.old.shape.inputs part.old.shape.parameters schedule.now }
+    requires locals { part.old.shape.locals ≡ length schedule.now.floors }
     requires printable { HasRelation part.old.shape.inputs part.old.shape.parameters schedule.now }
     ensures shape { part.new.shape ≡ part.old.shape }
     ensures rows { OnOk result (part.new.rows ≡ part.old.rows ++ floor_rows part.old.shape 0 schedule.now.floors) }
@@ -188,6 +188,28 @@ impl Schedule {
         push_dimension_rows(alloc, &mut part, self)?;
         push_floor_rows(alloc, &mut part, self)?;
         relation_of(alloc, part)
+    }
+
+    /// The two rows of each floor as a part of their own, without outputs, over so many iterators
+    /// and parameters; its locals are the floors. It needs what the relation of the schedule needs.
+    pub fn floor_part(
+        &self,
+        alloc: Global,
+        iterators: usize,
+        parameters: usize,
+    ) -> Result<Part, NoMemory>
+        requires { HasRelation iterators parameters self.now }
+        ensures { IfOk result (λ part. part ≡ floor_part iterators parameters self.now.floors) }
+    {
+        let shape = Shape {
+            outputs: 0,
+            inputs: iterators,
+            locals: self.floors.len(),
+            parameters,
+        };
+        let mut part = Part::new(alloc, shape);
+        push_floor_rows(alloc, &mut part, self)?;
+        Ok(part)
     }
 }
 
