@@ -8,6 +8,9 @@ pub mod Stamps
 pub mod RunLaws
 pub mod Members
 pub mod LevelOrder
+pub mod Sorting
+pub mod MappedLists
+pub mod RunOrders
 pub mod SolvedForms
 pub mod SolvedShapes
 pub mod SolvedPieces

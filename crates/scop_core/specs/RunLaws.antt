@@ -1,11 +1,47 @@
 -- The laws of runs on which dependences and edits rest, for every SCoP.
-use Rattle.std.specs.Prelude.{◌≡◌, ◌↔◌, ◌⊎◌, ℕ, ◌+◌, ◌<◌, ◌≤◌, List, length, ℤ, ◌<ℤ◌, true, false}
+use Rattle.std.specs.Prelude.{◌≡◌, ◌↔◌, ◌⊎◌, ℕ, ◌+◌, ◌<◌, ◌≤◌, List, length, ℤ, ◌<ℤ◌, true, false, map}
 use Rattle.row_core.specs.Rows.{entry}
 use Rattle.scop_core.specs.declared.schedules.Schedule.{Schedule}
 use Rattle.scop_core.specs.Order.{Before}
-use Rattle.scop_core.specs.Sequences.{In}
-use Rattle.scop_core.specs.Meaning.{interleaved, stamp_of}
+use Rattle.scop_core.specs.Sequences.{In, Precedes}
+use Rattle.scop_core.specs.Meaning.{interleaved, stamp_of, Instance, IsInstance, stamp, event, Touch, Run, memory_after}
 use Rattle.scop_core.specs.LevelOrder.{common_loops, is_textually_before, EqualUpTo, LessAfter, IsLevel, levels_between, OrdersAt, level_values}
+use Rattle.scop_core.specs.ScopData.{ScopData}
+use Rattle.scop_core.specs.Memory.{Memory}
+use Rattle.scop_core.specs.Theorems.{HasValidSchedules}
+
+-- the members of the list are the instances, in any order; an instance may stand in it more than once
+pub record ListsInstances (S : ScopData) (n : List ℤ) (L : List Instance) : Type 0 where
+  pub all : (a : Instance) → IsInstance S n a → In a L
+  pub only : (a : Instance) → In a L → IsInstance S n a
+
+-- instances with one stamp are one instance
+abbrev pub HasNoTies : ScopData → List ℤ → Type 0
+HasNoTies S n = (a b : Instance) → IsInstance S n a → IsInstance S n b → stamp S n a ≡ stamp S n b → a ≡ b
+
+-- where the schedules are valid, the instances can be listed and no two have one stamp, there is a run
+abbrev pub RunExists : Type 0
+RunExists = (S : ScopData) → HasValidSchedules S.statements → (n : List ℤ) (L : List Instance) → ListsInstances S n L → HasNoTies S n
+    → (M : List Instance) × Run S n M
+
+-- an instance precedes another in a run exactly where both are in it and its stamp is before that of the other
+abbrev pub PrecedesIsBefore : Type 0
+PrecedesIsBefore = (S : ScopData) (n : List ℤ) (L : List Instance) → Run S n L → (a b : Instance)
+    → Precedes L a b ↔ (In a L × In b L × Before (stamp S n a) (stamp S n b))
+
+-- each member of the list has in T the event that its image under f has in S
+abbrev pub HaveSameEvents : ScopData → ScopData → List ℤ → (Instance → Instance) → List Instance → Type 0
+HaveSameEvents T S n f L = (a : Instance) → In a L → event T n a ≡ event S n (f a)
+
+-- the steps of a list in T and those of its images in S give one memory
+abbrev pub SameEventsGiveOneMemory : Type 0
+SameEventsGiveOneMemory = (T S : ScopData) (n : List ℤ) (f : Instance → Instance) (L : List Instance) → HaveSameEvents T S n f L
+    → (m : Memory) → memory_after T n L m ≡ memory_after S n (map f L) m
+
+-- two instances of T touch exactly where the two of S with the same events do
+abbrev pub SameEventsTouch : Type 0
+SameEventsTouch = (T S : ScopData) (n : List ℤ) (a b c d : Instance) → event T n a ≡ event S n c → event T n b ≡ event S n d
+    → Touch T n a b ↔ Touch S n c d
 
 -- one stamp is before another exactly where the value of a loop around both is less and the values before it are equal, or all values of
 -- these loops are equal and the first statement stands before the second one in the text

@@ -1,7 +1,30 @@
 //! The laws of runs on which dependences and edits rest, for every SCoP: functions that do nothing, and
 //! whose contracts are the laws.
 
-ghost use Rattle.scop_core.specs.RunLaws.{BeforeByLevels, BeforeIsAtALevel, OneVectorHasAllLoops, LoopsAreCommon, LevelsAreListed, LevelsByEntries, SchedulesOrderAtALevel};
+ghost use Rattle.scop_core.specs.RunLaws.{RunExists, PrecedesIsBefore, SameEventsGiveOneMemory, SameEventsTouch, BeforeByLevels, BeforeIsAtALevel, OneVectorHasAllLoops, LoopsAreCommon, LevelsAreListed, LevelsByEntries, SchedulesOrderAtALevel};
+
+/// A run exists where the schedules are valid, a list has exactly the instances as members, and equal
+/// stamps come only from equal instances. Nothing is asked of limits.
+pub fn run_exists()
+    ensures { RunExists }
+{}
+
+/// In a run one instance precedes another exactly where both are members and its stamp is before that
+/// of the other.
+pub fn precedes_is_before()
+    ensures { PrecedesIsBefore }
+{}
+
+/// The steps of a list of instances, and the steps in another SCoP of instances with the same events,
+/// give one memory.
+pub fn same_events_give_one_memory()
+    ensures { SameEventsGiveOneMemory }
+{}
+
+/// Two instances touch exactly where two of another SCoP with the same events do.
+pub fn same_events_touch()
+    ensures { SameEventsTouch }
+{}
 
 /// One stamp is before another exactly where the value of a loop around both statements is less and
 /// the values before it are equal, or all values of these loops are equal and the first statement
