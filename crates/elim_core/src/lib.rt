@@ -3,8 +3,6 @@
 
 mod continuations;
 mod counts;
-#[cfg(test)]
-mod decision_tests;
 mod decisions;
 mod division;
 mod marks;
@@ -13,15 +11,9 @@ mod phases;
 mod projections;
 mod reductions;
 mod refutations;
-#[cfg(test)]
-mod search_tests;
-#[cfg(test)]
-mod sharing_tests;
 mod signs;
 mod starts;
 mod substitutions;
-#[cfg(test)]
-mod test_systems;
 mod tidying;
 mod verdicts;
 mod working_rows;

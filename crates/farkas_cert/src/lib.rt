@@ -4,8 +4,6 @@
 
 mod certificates;
 mod checks;
-#[cfg(test)]
-mod tests;
 mod texts;
 
 pub use certificates::Certificate;

@@ -15,6 +15,3 @@ pub use part_rows::{PartRow, RowKind};
 pub use parts::Part;
 pub use relations::Relation;
 pub use shapes::Shape;
-
-#[cfg(test)]
-mod tests;

@@ -21,6 +21,3 @@ pub use numbering::dense_vectors;
 pub use representations::Row;
 pub use sparse_rows::SparseRow;
 pub use sums::Sum;
-
-#[cfg(test)]
-mod tests;

@@ -1,34 +1,21 @@
 //! The check and the text of certificates at worked systems.
 
-use crate::{Certificate, TooHeavy, check, print_cert, read_cert, reads_back, valid_means_empty};
+use crate::values::{coeff, push};
+use farkas_cert::{
+    Certificate, TooHeavy, check, print_cert, read_cert, reads_back, valid_means_empty,
+};
 use relation_core::{Part, RowKind, Shape};
-use row_core::Coeff;
 use std::alloc::Global;
 use std::process::Abort;
 use std::test::Fail;
-use suite_base::{List, Text};
+use suite_base::Text;
 
 const MOST: i128 = i128::MAX;
-
-fn coeffs(rt: &impl Abort, alloc: Global, values: &[i128]) -> Result<List<Coeff>, Fail> {
-    let mut list = List::new(alloc);
-    for n in values {
-        list.push(Coeff::new(*n).expect(rt, "a coefficient"))?;
-    }
-    Ok(list)
-}
-
-fn push(rt: &impl Abort, part: &mut Part, kind: RowKind, values: &[i128]) -> Result<(), Fail> {
-    let row = coeffs(rt, part.allocator(), values)?;
-    assert_eq!(rt; row.as_slice().len(), part.width());
-    part.push_row(kind, row.as_slice())?;
-    Ok(())
-}
 
 fn certificate(rt: &impl Abort, alloc: Global, values: &[i128]) -> Result<Certificate, Fail> {
     let mut made = Certificate::new(alloc);
     for n in values {
-        made.push(Coeff::new(*n).expect(rt, "a coefficient"))?;
+        made.push(coeff(rt, *n))?;
     }
     Ok(made)
 }

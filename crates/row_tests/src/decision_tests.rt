@@ -1,6 +1,7 @@
 //! Decisions of worked systems in every way.
 
-use crate::test_systems::{Wanted, answers, answers_after, columns, followed, push};
+use crate::test_systems::{Wanted, answers, answers_after, columns, followed};
+use crate::values::push;
 use relation_core::RowKind;
 use std::alloc::Global;
 use std::process::Abort;

@@ -1,29 +1,17 @@
 //! Rows at worked values, the ends of a coefficient's range included.
 
-use crate::{
+use crate::values::{coeff, coeffs};
+use row_core::{
     Coeff, DenseRow, Entry, Row, RowFail, SparseRow, Sum, add_scaled, negated, swap_columns,
     value_sign,
 };
 use std::alloc::Global;
 use std::process::Abort;
 use std::test::Fail;
-use suite_base::List;
 
 const MOST: i128 = i128::MAX;
 
 const HALF: i128 = 1 << 126;
-
-fn coeff(rt: &impl Abort, n: i128) -> Coeff {
-    Coeff::new(n).expect(rt, "a coefficient")
-}
-
-fn coeffs(rt: &impl Abort, alloc: Global, values: &[i128]) -> Result<List<Coeff>, Fail> {
-    let mut list = List::new(alloc);
-    for n in values {
-        list.push(coeff(rt, *n))?;
-    }
-    Ok(list)
-}
 
 fn has_entries<R: Row>(rt: &impl Abort, row: &R, values: &[i128]) {
     assert_eq!(rt; row.len(), values.len());

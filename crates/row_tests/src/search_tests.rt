@@ -1,7 +1,8 @@
 //! Small random systems, whose verdicts are held against a search for points.
 
-use crate::decide;
-use crate::test_systems::{Wanted, answers_after, columns, followed, outcome, push};
+use crate::test_systems::{Wanted, answers_after, columns, followed, outcome};
+use crate::values::push;
+use elim_core::decide;
 use relation_core::{Part, RowKind};
 use std::alloc::Global;
 use std::process::Abort;

@@ -1,28 +1,13 @@
 //! Parts and relations at small systems, and their printed layout.
 
-use crate::{Part, Relation, RowKind, Shape, print_header, print_part, print_row};
-use row_core::Coeff;
+use crate::values::push;
+use relation_core::{Part, Relation, RowKind, Shape, print_header, print_part, print_row};
 use std::alloc::Global;
 use std::process::Abort;
 use std::test::Fail;
-use suite_base::{List, Text};
+use suite_base::Text;
 
 const MOST: i128 = i128::MAX;
-
-fn coeffs(rt: &impl Abort, alloc: Global, values: &[i128]) -> Result<List<Coeff>, Fail> {
-    let mut list = List::new(alloc);
-    for n in values {
-        list.push(Coeff::new(*n).expect(rt, "a coefficient"))?;
-    }
-    Ok(list)
-}
-
-fn push(rt: &impl Abort, part: &mut Part, kind: RowKind, values: &[i128]) -> Result<(), Fail> {
-    let row = coeffs(rt, part.allocator(), values)?;
-    assert_eq!(rt; row.as_slice().len(), part.width());
-    part.push_row(kind, row.as_slice())?;
-    Ok(())
-}
 
 fn prints(rt: &impl Abort, alloc: Global, part: &Part, wanted: &[u8]) -> Result<(), Fail> {
     let mut text = Text::new(alloc);

@@ -1,7 +1,8 @@
 //! The reduction substitutes, and by the row's own `combine`.
 
-use crate::reduce;
-use crate::test_systems::{columns, push};
+use crate::test_systems::columns;
+use crate::values::push;
+use elim_core::reduce;
 use relation_core::RowKind;
 use row_core::{Coeff, DenseRow, Row, RowFail, SparseRow};
 use std::alloc::Global;

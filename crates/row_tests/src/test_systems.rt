@@ -1,16 +1,16 @@
 //! Systems that the tests make, and what each way to decide them has to answer.
 
-ghost use Rattle.std.specs.Prelude.{IfOk, OnOk};
+ghost use Rattle.std.specs.Prelude.{IfOk};
 ghost use Rattle.elim_core.specs.Reductions.{BeginsWith};
 
-use crate::{ElimFail, Verdict, decide, decide_by, decide_with, reduce};
+use crate::values::push;
+use elim_core::{ElimFail, Verdict, decide, decide_by, decide_with, reduce};
 use farkas_cert::check;
 use relation_core::{Part, RowKind, Shape};
-use row_core::{Coeff, DenseRow, Row, SparseRow};
+use row_core::{DenseRow, Row, SparseRow};
 use std::alloc::Global;
 use std::process::Abort;
 use std::test::Fail;
-use suite_base::List;
 
 /// The outcome that a decision has to have.
 #[derive(Clone, Copy, Debug, PartialEq, Eq)]
@@ -19,24 +19,6 @@ pub enum Wanted {
     Empty,
     Overflow,
     TooManyRows,
-}
-
-/// Appends a row.
-pub fn push(rt: &impl Abort, part: &mut Part, kind: RowKind, values: &[i128]) -> Result<(), Fail>
-    ensures { OnOk result (BeginsWith part.new part.old) }
-{
-    let row = coeffs(rt, part.allocator(), values)?;
-    assert_eq!(rt; row.as_slice().len(), part.width());
-    part.push_row(kind, row.as_slice())?;
-    Ok(())
-}
-
-fn coeffs(rt: &impl Abort, alloc: Global, values: &[i128]) -> Result<List<Coeff>, Fail> {
-    let mut list = List::new(alloc);
-    for n in values {
-        list.push(Coeff::new(*n).expect(rt, "a coefficient"))?;
-    }
-    Ok(list)
 }
 
 /// The system without rows of at most eight outputs and eight inputs.
