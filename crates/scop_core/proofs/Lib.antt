@@ -30,7 +30,6 @@ pub mod ReadBackPieces
 pub mod ReadBackRows
 pub mod ReadBackSolved
 mod SolvedChecks
-pub mod Samples
 mod LayoutChecks
 mod Checks
 mod LevelChecks

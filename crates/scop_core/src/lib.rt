@@ -31,8 +31,3 @@ pub use raw_pieces::{RawStatement, ScopPieces};
 pub use schedules::{Floor, Schedule};
 pub use scops::Scop;
 pub use statements::{Body, Extension, Statement};
-
-#[cfg(test)]
-mod floor_tests;
-#[cfg(test)]
-mod tests;

@@ -22,6 +22,3 @@ mod text_lines;
 pub use roles::Role;
 pub use scop_rules::read_pieces;
 pub use scop_texts::read_scop;
-
-#[cfg(test)]
-mod tests;

@@ -7,6 +7,3 @@ mod scop_texts;
 mod statement_texts;
 
 pub use scop_texts::print_scop;
-
-#[cfg(test)]
-mod tests;

@@ -3,9 +3,9 @@
 ghost use Rattle.std.specs.Prelude.{IfOk};
 ghost use Rattle.scop_core.specs.SolvedRows.{HasRelation};
 
-use crate::{Affine, Floor, Schedule};
 use relation_core::print_part;
 use row_core::Coeff;
+use scop_core::{Affine, Floor, Schedule};
 use std::alloc::Global;
 use std::process::Abort;
 use std::test::Fail;

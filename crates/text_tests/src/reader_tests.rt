@@ -1,7 +1,7 @@
 //! Texts that are read, and the refusal of each that is not.
 
-use crate::{read_pieces, read_scop};
 use scop_core::{RawStatement, ScopPieces};
+use scop_reader::{read_pieces, read_scop};
 use std::alloc::Global;
 use std::test::Fail;
 use suite_base::{Fail as Failure, NoMemory, Place, Refusal, Text, Which};
