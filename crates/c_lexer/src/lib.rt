@@ -13,6 +13,3 @@ pub use lexers::Lexer;
 pub use pragmas::{Pragma, is_pragma, pragma_of};
 pub use regions::{RegionFail, Span, find_region};
 pub use tokens::{BadToken, Token, TokenKind};
-
-#[cfg(test)]
-mod tests;

@@ -18,6 +18,3 @@ pub use tree::{
     Primary, Product, ProductSign, Region, Rel, Step, Sum, SumSign, Target, Unary, UnarySign,
     Value,
 };
-
-#[cfg(test)]
-mod tests;

@@ -3,8 +3,8 @@
 ghost use Rattle.std.specs.Prelude.{◌≡◌, ◌≤◌, length};
 ghost use Rattle.c_lexer.specs.Places.{place_at};
 
-use crate::{Node, parse_region};
 use c_lexer::Span;
+use c_parser::{Node, parse_region};
 use std::alloc::AllocError;
 use std::test::Fail as Failed;
 use suite_base::{Fail, Place, Refusal};

@@ -1,26 +1,27 @@
 //! Regions and tokens of small texts.
 
-use crate::{BadToken, Lexer, Pragma, RegionFail, Span, TokenKind, find_region, pragma_of};
+use c_lexer::{BadToken, Lexer, Pragma, RegionFail, Span, TokenKind, find_region, is_pragma};
 use std::alloc::AllocError;
 use std::test::Fail;
 use suite_base::Place;
 
 #[test]
 fn pragma_lines(rt: HostRuntime) {
-    let cases: [(&[u8], Option<Pragma>); 10] = [
-        (b"#pragma scop", Some(Pragma::Scop)),
-        (b"  # \t pragma   scop \r", Some(Pragma::Scop)),
-        (b"\t#pragma\tendscop", Some(Pragma::Endscop)),
-        (b"#pragmascop", None),
-        (b"#pragma scop x", None),
-        (b"#pragma scopend", None),
-        (b"#pragma", None),
-        (b"pragma scop", None),
-        (b"# pragma end scop", None),
-        (b"", None),
+    let cases: [(&[u8], bool, bool); 10] = [
+        (b"#pragma scop", true, false),
+        (b"  # \t pragma   scop \r", true, false),
+        (b"\t#pragma\tendscop", false, true),
+        (b"#pragmascop", false, false),
+        (b"#pragma scop x", false, false),
+        (b"#pragma scopend", false, false),
+        (b"#pragma", false, false),
+        (b"pragma scop", false, false),
+        (b"# pragma end scop", false, false),
+        (b"", false, false),
     ];
-    for (line, pragma) in cases {
-        assert_eq!(rt; pragma_of(line), pragma);
+    for (line, scop, endscop) in cases {
+        assert_eq!(rt; is_pragma(line, Pragma::Scop), scop);
+        assert_eq!(rt; is_pragma(line, Pragma::Endscop), endscop);
     }
 }
 
