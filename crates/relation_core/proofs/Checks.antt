@@ -1,5 +1,5 @@
 -- The definitions on concrete systems.
-use Rattle.std.specs.Prelude.{ℤ, pos, negsuc, ◌+◌, ◌≡◌, refl, List, [], ◌∷◌, ◌++◌, length, codes}
+use Rattle.std.specs.Prelude.{pos, negsuc, ◌≡◌, refl, [], ◌∷◌, codes}
 use Rattle.std.proofs.Common.{arith}
 use Rattle.std.specs.Fmt.{digits}
 use Rattle.std.proofs.lemmas.Int.{ints}

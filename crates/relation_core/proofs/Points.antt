@@ -5,8 +5,7 @@ use Rattle.std.proofs.lemmas.Int.{ints}
 use Rattle.std.proofs.lemmas.List.{append_assoc, length-append}
 use Rattle.row_core.specs.Rows.{dot}
 use Rattle.relation_core.specs.declared.part_rows.PartRow.{PartRow}
-use Rattle.relation_core.specs.Systems.{System, columns}
-use Rattle.relation_core.specs.Points.{MeetsAll, coordinates, LiesIn, HasPoint, MembersAreRationalPoints}
+use Rattle.relation_core.specs.Points.{MeetsAll, coordinates, MembersAreRationalPoints}
 
 -- a point meets two lists of rows exactly where it meets all rows of both
 pub meets_append : (a b : List PartRow) (v : List ℤ) → MeetsAll a v → MeetsAll b v → MeetsAll (a ++ b) v
