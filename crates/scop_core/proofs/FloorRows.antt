@@ -1,6 +1,6 @@
 -- The rows of floors allow the values of the floors, and no others.
 use Rattle.std.proofs.Common.{◌≡◌, ℕ, zero, suc, ◌+◌, ◌<◌, ◌≤◌, List, [], ◌∷◌, ◌++◌, length, take, drop, map, get_or, ℤ, pos, negsuc, ◌+ℤ◌, ◌*ℤ◌, neg_ℤ, ◌≤ℤ◌, refl, ap, sym, ◌∙◌, subst, arith, add-one, add-zero, zero-add}
-use Rattle.std.specs.Prelude.{◌↔◌, All}
+use Rattle.std.specs.Prelude.{All}
 use Rattle.std.proofs.lemmas.Int.{ints}
 use Rattle.std.proofs.lemmas.List.{length-append, length-map, length-take, length-drop, take_all, take-take, get_or-take, get_or_push, take-append-le}
 use Rattle.std.proofs.lemmas.List.Elements.{All-head, All-tail}
@@ -9,10 +9,10 @@ use Rattle.row_core.specs.Rows.{entry, dot}
 use Rattle.row_core.proofs.Ring.{neg_mul_z, add_mul_z}
 use Rattle.relation_core.specs.declared.shapes.Shape.{Shape}
 use Rattle.relation_core.specs.Points.{MeetsAll, coordinates}
-use Rattle.scop_core.specs.declared.affines.Affine.{Affine}
 use Rattle.scop_core.specs.declared.schedules.Floor.{Floor}
-use Rattle.scop_core.specs.SolvedRows.{HasSizes, raised, low_row, high_row, floor_rows, floor_shape}
-use Rattle.scop_core.specs.ReadBack.{UsesEarlier, AreSolvedFloors}
+use Rattle.scop_core.specs.declared.schedules.Schedule.{Schedule}
+use Rattle.scop_core.specs.SolvedRows.{HasSizes, raised, low_row, high_row, floor_rows}
+use Rattle.scop_core.specs.ReadBack.{UsesEarlier, AreSolvedFloors, IsSolvedSchedule}
 use Rattle.scop_core.specs.Meaning.{affine_at, floor_of, floors_after}
 use Rattle.scop_core.specs.SolvedLaws.{FloorRowsMeanFloors}
 use Rattle.scop_core.proofs.Floors.{floor_meets_rows, rows_give_floor}
@@ -174,3 +174,7 @@ floor_rows_mean iterators parameters floors solved x l n ex el en =
       λ h. given_by_rows iterators m parameters 0 floors x l n at stand (zero-add m) h,
       λ e. rows_at_floors iterators m parameters 0 floors [] x l n ex en refl stand (zero-add m) e,
     )
+
+-- the floors of a schedule in solved form
+pub floors_are_solved : (iterators parameters : ℕ) (schedule : Schedule) → IsSolvedSchedule iterators parameters schedule → AreSolvedFloors iterators parameters schedule.floors
+floors_are_solved iterators parameters schedule solved = record { forms = solved.relation.floors; sizes = solved.sizes; earlier = solved.earlier }

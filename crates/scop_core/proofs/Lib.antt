@@ -30,6 +30,7 @@ pub mod ReadBackPieces
 pub mod ReadBackRows
 pub mod ReadBackSolved
 mod SolvedChecks
+pub mod ScopShapes
 mod LayoutChecks
 mod Checks
 mod LevelChecks

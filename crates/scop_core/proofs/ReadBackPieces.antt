@@ -188,7 +188,7 @@ none_passed k raw keeps =
     (none_if _ _ _ keeps.parts (none_if _ _ _ keeps.accesses (none_if _ _ _ keeps.subscripts refl))))))
 
 -- bodies
-body_count : (k n : ℕ) (body : Option Body) → IfSome body (λ b. length b.iterators ≡ n) → length (body_from k n body).iterators ≡ n
+pub body_count : (k n : ℕ) (body : Option Body) → IfSome body (λ b. length b.iterators ≡ n) → length (body_from k n body).iterators ≡ n
 body_count k n (Some body) h = h
 body_count k n None h = default_count 1 n
 
@@ -306,7 +306,7 @@ abbrev AllGood : ℕ → ℕ → List RawStatement → Type 0
 AllGood p k [] = Unit {0}
 AllGood p k (raw ∷ raws) = Good p k raw × AllGood p (k + 1) raws
 
-unless_some : {X : Type 0} (t : Bool) (x : X) (rest : Option X) → (if t then rest else Some x) ≡ None → (t ≡ true) × (rest ≡ None)
+pub unless_some : {X : Type 0} (t : Bool) (x : X) (rest : Option X) → (if t then rest else Some x) ≡ None → (t ≡ true) × (rest ≡ None)
 unless_some true x rest h = (refl, h)
 unless_some false x rest h = absurd (cc)
 

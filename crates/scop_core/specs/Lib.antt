@@ -11,6 +11,7 @@ pub mod ReadBack
 pub mod RunLaws
 pub mod ScopData
 pub mod Sequences
+pub mod Shapes
 pub mod SolvedForm
 pub mod SolvedLaws
 pub mod SolvedRows
