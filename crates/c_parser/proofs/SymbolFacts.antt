@@ -11,8 +11,7 @@ use Rattle.c_lexer.specs.Readings.{Reading, Lexeme, slice, next, lexeme_at, next
 use Rattle.c_lexer.specs.Readings as lexer
 use Rattle.c_parser.specs.declared.symbols.Symbol.{Symbol}
 use Rattle.c_parser.specs.declared.symbols.Symbol.TheVariants as s
-use Rattle.c_parser.specs.declared.symbols.TheConstants.{WORDS}
-use Rattle.c_parser.specs.Symbols.{lookup, name_symbol, single, assigned, doubled, sign_symbol, symbol_of, is_too_large}
+use Rattle.c_parser.specs.Symbols.{lookup, name_symbol, word_symbols, single, assigned, doubled, sign_symbol, symbol_of, is_too_large}
 use Rattle.c_parser.specs.Input.{symbol, symbol_from}
 use Rattle.c_parser.specs.Prefixes.{is_sound}
 use Rattle.c_parser.proofs.TokenFacts.{some_is}
@@ -39,7 +38,7 @@ lookup_sound (w ∷ words) text e =
 
 name_sound : (text : List ℕ) → is_sound (name_symbol text) ≡ true
 unfolding name_symbol
-name_sound text = lookup_sound (map (λ w. (w.0.now, w.1)) WORDS) text refl
+name_sound text = lookup_sound word_symbols text refl
 
 -- ---- signs
 

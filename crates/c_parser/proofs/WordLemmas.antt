@@ -5,8 +5,7 @@ use Rattle.std.proofs.lemmas.Bool.{ltb-true}
 use Rattle.std.specs.Str.{bytes_eq}
 use Rattle.c_parser.specs.declared.symbols.Symbol.{Symbol}
 use Rattle.c_parser.specs.declared.symbols.Symbol.TheVariants as s
-use Rattle.c_parser.specs.declared.symbols.TheConstants.{WORDS}
-use Rattle.c_parser.specs.Symbols.{lookup, name_symbol}
+use Rattle.c_parser.specs.Symbols.{lookup, name_symbol, word_symbols}
 
 -- each word has 2 to 8 bytes
 abbrev are_between : List (List ℕ × Symbol) → Bool
@@ -35,4 +34,4 @@ free (w ∷ words) text e h =
 
 pub free_name : (text : List ℕ) → (length text < 2) ⊎ (8 < length text) → s.Name ≡ name_symbol text
 unfolding name_symbol
-free_name text h = sym (free (map (λ w. (w.0.now, w.1)) WORDS) text refl h)
+free_name text h = sym (free word_symbols text refl h)

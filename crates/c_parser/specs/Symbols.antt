@@ -1,5 +1,5 @@
 -- What a token is to the grammar.
-use Rattle.std.specs.Prelude.{ℕ, ◌+◌, ◌-◌, ◌*◌, Bool, if◌then◌else◌, ◌==◌, nat_lt, List, [], ◌∷◌, map}
+use Rattle.std.specs.Prelude.{ℕ, ◌+◌, ◌-◌, ◌*◌, Bool, if◌then◌else◌, ◌==◌, nat_lt, List, [], ◌∷◌, ◌++◌, map, codes}
 use Rattle.std.specs.Str.{bytes_eq}
 use denote.Enum.Bare.{sameb}
 use Rattle.c_parser.specs.contracts.symbols.Symbol.{the_type}
@@ -7,7 +7,7 @@ use Rattle.c_lexer.specs.declared.tokens.TokenKind.{TokenKind}
 use Rattle.c_lexer.specs.declared.tokens.TokenKind.TheVariants as kind
 use Rattle.c_parser.specs.declared.symbols.Symbol.{Symbol}
 use Rattle.c_parser.specs.declared.symbols.Symbol.TheVariants as s
-use Rattle.c_parser.specs.declared.symbols.TheConstants.{WORDS}
+use Rattle.suite_base.specs.Limits.{max_weight}
 
 -- `==` on symbols
 unfoldable pub same_symbol : Symbol → Symbol → Bool
@@ -18,17 +18,35 @@ abbrev pub lookup : List (List ℕ × Symbol) → List ℕ → Symbol
 lookup [] text = s.Name
 lookup (w ∷ words) text = if bytes_eq w.0 text then w.1 else lookup words text
 
+-- the operators of bounds, which are names only before `(`
+abbrev pub operator_names : List (List ℕ)
+operator_names = codes "max" ∷ codes "min" ∷ codes "ceild" ∷ codes "floord" ∷ []
+
+-- the reserved words of C that have no place in the grammar
+abbrev pub other_words : List (List ℕ)
+other_words =
+    codes "auto" ∷ codes "break" ∷ codes "case" ∷ codes "char" ∷ codes "const" ∷ codes "continue" ∷ codes "default" ∷
+    codes "do" ∷ codes "double" ∷ codes "enum" ∷ codes "extern" ∷ codes "float" ∷ codes "goto" ∷ codes "long" ∷
+    codes "register" ∷ codes "return" ∷ codes "short" ∷ codes "signed" ∷ codes "sizeof" ∷ codes "static" ∷ codes "struct" ∷
+    codes "switch" ∷ codes "typedef" ∷ codes "union" ∷ codes "unsigned" ∷ codes "void" ∷ codes "volatile" ∷ codes "while" ∷ []
+
+-- the 32 reserved words of C and the 4 operators of bounds, with what each is to the grammar
+abbrev pub word_symbols : List (List ℕ × Symbol)
+word_symbols =
+    (codes "for", s.For) ∷ (codes "if", s.If) ∷ (codes "else", s.Else) ∷ (codes "int", s.Int)
+    ∷ (map (λ w. (w, s.Operator)) operator_names ++ map (λ w. (w, s.Reserved)) other_words)
+
 unfoldable pub name_symbol : List ℕ → Symbol
-name_symbol = lookup (map (λ w. (w.0.now, w.1)) WORDS)
+name_symbol = lookup word_symbols
 
 -- the number that digits stand for, behind others that stand for one
 abbrev pub value_from : ℕ → List ℕ → ℕ
 value_from value [] = value
 value_from value (b ∷ digits) = value_from (10 * value + (b - 48)) digits
 
--- the greatest coefficient is 2 ^ 127 - 1
+-- more than the greatest coefficient
 abbrev pub is_too_large : List ℕ → Bool
-is_too_large digits = nat_lt 170141183460469231731687303715884105727 (value_from 0 digits)
+is_too_large digits = nat_lt max_weight (value_from 0 digits)
 
 -- ---- signs, by their bytes
 

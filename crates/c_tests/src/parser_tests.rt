@@ -124,6 +124,57 @@ fn repeated(
     Ok(text)
 }
 
+/// A reserved word is no value, and an operator of bounds is none where no `(` follows.
+#[test]
+fn words_are_no_names(rt: HostRuntime) -> Result<(), Failed> {
+    let words: [(&[u8], u32); 36] = [
+        (b"auto", 5),
+        (b"break", 5),
+        (b"case", 5),
+        (b"char", 5),
+        (b"const", 5),
+        (b"continue", 5),
+        (b"default", 5),
+        (b"do", 5),
+        (b"double", 5),
+        (b"else", 5),
+        (b"enum", 5),
+        (b"extern", 5),
+        (b"float", 5),
+        (b"for", 5),
+        (b"goto", 5),
+        (b"if", 5),
+        (b"int", 5),
+        (b"long", 5),
+        (b"register", 5),
+        (b"return", 5),
+        (b"short", 5),
+        (b"signed", 5),
+        (b"sizeof", 5),
+        (b"static", 5),
+        (b"struct", 5),
+        (b"switch", 5),
+        (b"typedef", 5),
+        (b"union", 5),
+        (b"unsigned", 5),
+        (b"void", 5),
+        (b"volatile", 5),
+        (b"while", 5),
+        (b"max", 8),
+        (b"min", 8),
+        (b"ceild", 10),
+        (b"floord", 11),
+    ];
+    for (word, column) in words {
+        let text = repeated(rt.alloc(), b"a = ", word, 1, b";")?;
+        assert_eq!(rt;
+            read(rt.alloc(), text.as_slice()),
+            Outcome::Syntax(1, column)
+        );
+    }
+    Ok(())
+}
+
 #[test]
 fn depths(rt: HostRuntime) -> Result<(), Failed> {
     let cases: [(&[u8], usize, &[u8], Outcome); 20] = [
