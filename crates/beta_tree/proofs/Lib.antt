@@ -13,7 +13,6 @@ pub mod Leaves
 pub mod Steps
 pub mod Calls
 pub mod Dense
-pub mod Samples
 pub mod Undone
 pub mod Kept
 pub mod Stays

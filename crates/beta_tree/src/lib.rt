@@ -15,6 +15,3 @@ pub use laws::{
     leaf_keeps_order, level_keeps_order, reorder_undoes_reorder,
 };
 pub use refusals::BetaFail;
-
-#[cfg(test)]
-mod tests;

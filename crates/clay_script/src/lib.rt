@@ -7,8 +7,6 @@ mod commands;
 mod lexers;
 mod printers;
 mod readers;
-#[cfg(test)]
-mod tests;
 mod tokens;
 mod vectors;
 

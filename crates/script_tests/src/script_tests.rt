@@ -1,6 +1,6 @@
 //! Scripts read, refused and printed, as tables.
 
-use crate::{MAX_COMMANDS, Script, print_script, read_script};
+use clay_script::{MAX_COMMANDS, Script, print_script, read_script};
 use std::alloc::Global;
 use std::test::Fail as TestFail;
 use suite_base::{Fail, Place, Refusal, Text, Which};

@@ -2,7 +2,7 @@
 
 ghost use Rattle.std.specs.Prelude.{◌≡◌, ◌∷◌, [], length, IfOk};
 
-use crate::{BetaFail, Betas};
+use beta_tree::{BetaFail, Betas};
 use row_core::Coeff;
 use std::alloc::Global;
 use std::test::Fail;

@@ -1,6 +1,6 @@
 use Rattle.std.proofs.Common.{◌≡◌, rules}
-use Rattle.beta_tree.proofs.Samples.{sample, sample_free}
-use Rattle.beta_tree.proofs.tests.loop_and_statement.Goals as goal
+use Rattle.script_tests.proofs.Samples.{sample, sample_free}
+use Rattle.script_tests.proofs.beta_tests.loop_and_statement.Goals as goal
 
 pub dense-requires-clause-free : goal.dense-requires-clause-free
 dense-requires-clause-free c =
