@@ -9,16 +9,12 @@ mod line_cursors;
 mod lists;
 mod memory;
 mod memory_fakes;
-#[cfg(test)]
-mod number_tests;
 mod numbers;
 mod outside;
 mod places;
 mod reading;
 mod refusals;
 mod sure_fakes;
-#[cfg(test)]
-mod tests;
 mod texts;
 mod word_lists;
 mod words;

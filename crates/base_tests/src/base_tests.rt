@@ -1,13 +1,13 @@
 //! Each public call once with ample memory, and the limit of one input.
 
-use crate::{
-    Fail, Failed, Files, Lines, List, MemFiles, MemSink, MemSource, Place, ReadFail,
-    Refusal, Sink, Source, SureFiles, SureSink, SureSource, Text, Which, WordList, read_all,
-    read_file, trimmed, write_all, write_pieces,
-};
 use std::alloc::Global;
 use std::process::Abort;
 use std::test::Fail as TestFail;
+use suite_base::{
+    Fail, Failed, Files, Lines, List, MemFiles, MemSink, MemSource, Place, ReadFail, Refusal, Sink,
+    Source, SureFiles, SureSink, SureSource, Text, Which, WordList, read_all, read_file, trimmed,
+    write_all, write_pieces,
+};
 
 fn text_of(alloc: Global, bytes: &[u8]) -> Result<Text, TestFail> {
     let mut text = Text::new(alloc);

@@ -1,6 +1,6 @@
 //! Number words and the words of a line, as tables.
 
-use crate::{NumberRead, content_line, next_word, read_number};
+use suite_base::{NumberRead, content_line, next_word, read_number};
 
 #[test]
 fn number_words_are_read(rt: HostRuntime) {
