@@ -1,3 +1,4 @@
+pub mod AffineSums
 pub mod Assembly
 pub mod Held
 pub mod KeptLimits
