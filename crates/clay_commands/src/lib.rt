@@ -1,0 +1,6 @@
+//! The ten commands that edit the schedule of a SCoP.
+#![tactic(auto)]
+
+mod edited;
+
+pub use edited::Edited;
