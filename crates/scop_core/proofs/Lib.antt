@@ -1,3 +1,5 @@
+pub mod Taken
+pub mod AffineSums
 pub mod RowLists
 pub mod Orders
 pub mod Reordering

@@ -1,6 +1,6 @@
 -- Arithmetic of affine values.
-use Rattle.std.specs.Prelude.{ℤ, pos, neg_ℤ, ◌+ℤ◌, ◌*ℤ◌, ℕ, List, [], ◌∷◌, ◌++◌, length, map}
-use Rattle.row_core.specs.Rows.{add_rows, scale}
+use Rattle.std.specs.Prelude.{ℤ, pos, neg_ℤ, ◌+ℤ◌, ◌*ℤ◌, ℕ, ◌≡◌, List, [], ◌∷◌, ◌++◌, length, map, max}
+use Rattle.row_core.specs.Rows.{add_rows, scale, combined_weight, pair_weight}
 use Rattle.scop_core.specs.declared.affines.Affine.{Affine}
 use Rattle.scop_core.specs.SolvedRows.{zeros}
 
@@ -38,3 +38,19 @@ last_floor form = record {
   parameters = zeros (length form.parameters);
   constant = pos 0;
 }
+
+-- two forms have as many coefficients of each sort
+pub record HaveOneSize (a b : Affine) : Type 0 where
+  pub iterators : length a.iterators ≡ length b.iterators
+  pub floors : length a.floors ≡ length b.floors
+  pub parameters : length a.parameters ≡ length b.parameters
+
+-- the greatest weight of a column of a + q b
+abbrev pub sum_weight : Affine → ℤ → Affine → ℕ
+sum_weight a q b =
+    max (combined_weight (pos 1) a.iterators q b.iterators) (max (combined_weight (pos 1) a.floors q b.floors)
+    (max (combined_weight (pos 1) a.parameters q b.parameters) (pair_weight (pos 1) a.constant q b.constant)))
+
+-- the greatest weight of a column of a form and what it is moved by
+abbrev pub move_weight : Affine → List ℤ → ℤ → ℕ
+move_weight form v c = max (combined_weight (pos 1) form.parameters (pos 1) v) (pair_weight (pos 1) form.constant (pos 1) c)

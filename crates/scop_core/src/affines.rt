@@ -11,10 +11,10 @@ use suite_base::NoMemory;
 /// value of a subscript has no coefficients of floors.
 #[derive(Drop)]
 pub struct Affine {
-    iterators: DenseRow,
-    floors: DenseRow,
-    parameters: DenseRow,
-    constant: Coeff,
+    pub(crate) iterators: DenseRow,
+    pub(crate) floors: DenseRow,
+    pub(crate) parameters: DenseRow,
+    pub(crate) constant: Coeff,
 }
 
 impl Affine {

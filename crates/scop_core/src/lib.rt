@@ -3,6 +3,7 @@
 #![tactic(auto)]
 
 mod accesses;
+mod affine_sums;
 mod affines;
 mod array_tables;
 mod assembling;
@@ -22,6 +23,7 @@ mod solved_forms;
 mod solved_parts;
 mod solved_tests;
 mod solving;
+mod statement_copies;
 mod statements;
 
 pub use accesses::{Access, AccessKind};
