@@ -1,0 +1,4 @@
+pub mod Entries
+pub mod Levels
+pub mod Sides
+pub mod Systems

@@ -1,0 +1,43 @@
+-- The two sides of a dependence: statements, each with the schedule by which its instances are ordered.
+use Rattle.std.specs.Prelude.{◌≡◌, ◌⊎◌, ℕ, ◌+◌, List, [], ◌∷◌, map, length, Option, Some, None, All, IsSomeAnd}
+use Rattle.relation_core.specs.Systems.{System}
+use Rattle.relation_core.specs.Points.{LiesInSome}
+use Rattle.scop_core.specs.declared.accesses.Access.{Access}
+use Rattle.scop_core.specs.declared.schedules.Schedule.{Schedule}
+use Rattle.scop_core.specs.declared.statements.Statement.{Statement}
+use Rattle.scop_core.specs.ScopData.{ScopData}
+use Rattle.scop_core.specs.Meaning.{statement_at}
+
+-- a statement as a source or a target: the number of its iterators, its domain, its accesses and a schedule
+pub record Side : Type 0 where
+  pub iterators : ℕ
+  pub domain : List System
+  pub accesses : List Access
+  pub schedule : Schedule
+
+-- the schedule of nothing
+abbrev pub no_schedule : Schedule
+no_schedule = record { floors = []; levels = []; betas = [] }
+
+-- the schedule of a statement, where there is one
+abbrev pub schedule_in : Option Statement → Schedule
+schedule_in None = no_schedule
+schedule_in (Some s) = s.schedule
+
+-- a statement under a schedule
+abbrev pub under : Statement → Schedule → Side
+under s schedule = record { iterators = length s.body.iterators; domain = s.domain; accesses = s.accesses; schedule = schedule }
+
+-- each statement under the schedule of its original, which is known by its number
+abbrev pub under_originals : List Statement → List Statement → List ℕ → List Side
+under_originals old [] of = []
+under_originals old (s ∷ now) [] = []
+under_originals old (s ∷ now) (k ∷ of) = under s (schedule_in (statement_at old k)) ∷ under_originals old now of
+
+-- the statements of `now` under the schedules that their originals have in `old`
+abbrev pub sides : ScopData → ScopData → List ℕ → List Side
+sides old now of = under_originals old.statements now.statements of
+
+-- the statements of one SCoP under their own schedules
+abbrev pub own_sides : ScopData → List Side
+own_sides S = map (λ s. under s s.schedule) S.statements

@@ -1,0 +1,200 @@
+-- The rows of a dependence system, over unbounded integers.
+use Rattle.std.specs.Prelude.{ℤ, pos, negsuc, ◌+ℤ◌, ◌*ℤ◌, ℕ, zero, suc, ◌+◌, ◌-◌, List, [], ◌∷◌, ◌++◌, map, take, drop, length, get_or, max, unsigned_abs}
+use Rattle.row_core.specs.Rows.{scale, combined, combined_weight, pair_weight}
+use Rattle.relation_core.specs.Systems.{System, no_rows}
+use Rattle.relation_core.specs.declared.shapes.Shape.{Shape}
+use Rattle.relation_core.specs.declared.part_rows.PartRow.{PartRow}
+use Rattle.relation_core.specs.declared.part_rows.RowKind.TheVariants.{Equal, AtLeast}
+use Rattle.scop_core.specs.declared.affines.Affine.{Affine}
+use Rattle.scop_core.specs.declared.accesses.Access.{Access}
+use Rattle.scop_core.specs.declared.accesses.AccessKind.TheVariants.{Read}
+use Rattle.scop_core.specs.declared.schedules.Schedule.{Schedule}
+use Rattle.scop_core.specs.SolvedRows.{zeros, floor_rows}
+use Rattle.dependence_systems.specs.declared.deps.Dep.{Dep}
+use Rattle.dependence_systems.specs.declared.widths.Widths.{Widths}
+use Rattle.dependence_systems.specs.declared.widths.Topic.{Topic}
+use Rattle.dependence_systems.specs.declared.widths.Topic.TheVariants.{Context, SourcePart, TargetPart, SourceFloors, TargetFloors}
+use Rattle.dependence_systems.specs.Levels.{carried}
+use Rattle.dependence_systems.specs.Sides.{Side, no_schedule}
+
+-- what a system is made of: the context, and of source and target a domain part, an access and a schedule
+pub record Pairing : Type 0 where
+  pub context : System
+  pub source_part : System
+  pub target_part : System
+  pub source_access : Access
+  pub target_access : Access
+  pub source_schedule : Schedule
+  pub target_schedule : Schedule
+
+-- the numbers of its columns but for the parameters
+abbrev pub widths_of : Pairing → Widths
+widths_of m = record {
+  source = m.source_part.shape.outputs;
+  target = m.target_part.shape.outputs;
+  source_part = m.source_part.shape.locals;
+  target_part = m.target_part.shape.locals;
+  source_floors = length m.source_schedule.floors;
+  target_floors = length m.target_schedule.floors;
+}
+
+-- source iterators, target iterators, locals of the source part, of the target part, source floors,
+-- target floors, and then the parameters and the constant
+abbrev pub in_columns : List ℤ → List ℤ → List ℤ → List ℤ → List ℤ → List ℤ → List ℤ → List ℤ
+in_columns s t p q f g rest = s ++ (t ++ (p ++ (q ++ (f ++ (g ++ rest)))))
+
+-- a row of iterators, locals and the rest in the columns of a system; a row of the context has the rest alone
+abbrev pub placed : Topic → Widths → List ℤ → List ℤ
+placed Context w row =
+    in_columns (zeros w.source) (zeros w.target) (zeros w.source_part) (zeros w.target_part) (zeros w.source_floors) (zeros w.target_floors) row
+placed SourcePart w row =
+    in_columns (take w.source row) (zeros w.target) (take w.source_part (drop w.source row)) (zeros w.target_part)
+    (zeros w.source_floors) (zeros w.target_floors) (drop (w.source + w.source_part) row)
+placed TargetPart w row =
+    in_columns (zeros w.source) (take w.target row) (zeros w.source_part) (take w.target_part (drop w.target row))
+    (zeros w.source_floors) (zeros w.target_floors) (drop (w.target + w.target_part) row)
+placed SourceFloors w row =
+    in_columns (take w.source row) (zeros w.target) (zeros w.source_part) (zeros w.target_part)
+    (take w.source_floors (drop w.source row)) (zeros w.target_floors) (drop (w.source + w.source_floors) row)
+placed TargetFloors w row =
+    in_columns (zeros w.source) (take w.target row) (zeros w.source_part) (zeros w.target_part) (zeros w.source_floors)
+    (take w.target_floors (drop w.target row)) (drop (w.target + w.target_floors) row)
+
+-- rows in the columns of a system
+abbrev pub placed_rows : Topic → Widths → List PartRow → List PartRow
+placed_rows topic w rows = map (λ row. record { kind = row.kind; entries = placed topic w row.entries }) rows
+
+-- the row i a + j b + k of a value a of the source and b of the target, which have these coefficients of floors
+abbrev pub summed : Widths → ℤ → ℤ → ℤ → List ℤ → List ℤ → Affine → Affine → List ℤ
+summed w i j k f g a b =
+    in_columns (scale i a.iterators) (scale j b.iterators) (zeros w.source_part) (zeros w.target_part) f g
+    (combined i a.parameters j b.parameters ++ (((i *ℤ a.constant) +ℤ (j *ℤ b.constant)) +ℤ k) ∷ [])
+
+-- source minus target = 0, of two subscripts, which use no floors
+abbrev pub subscript_row : Widths → Affine → Affine → PartRow
+subscript_row w a b = record { kind = Equal; entries = summed w (pos 1) (negsuc 0) (pos 0) (zeros w.source_floors) (zeros w.target_floors) a b }
+
+-- source minus target = 0, of two levels
+abbrev pub equal_row : Widths → Affine → Affine → PartRow
+equal_row w a b = record { kind = Equal; entries = summed w (pos 1) (negsuc 0) (pos 0) (scale (pos 1) a.floors) (scale (negsuc 0) b.floors) a b }
+
+-- target minus source minus 1 >= 0, of two levels
+abbrev pub less_row : Widths → Affine → Affine → PartRow
+less_row w a b = record { kind = AtLeast; entries = summed w (negsuc 0) (pos 1) (negsuc 0) (scale (negsuc 0) a.floors) (scale (pos 1) b.floors) a b }
+
+-- one row for each two values at one place
+abbrev pub rows_between : (Affine → Affine → PartRow) → List Affine → List Affine → List PartRow
+rows_between row [] ys = []
+rows_between row (a ∷ xs) [] = []
+rows_between row (a ∷ xs) (b ∷ ys) = row a b ∷ rows_between row xs ys
+
+-- the columns of a system
+abbrev pub system_shape : Pairing → Shape
+system_shape m = record {
+  outputs = m.source_part.shape.outputs;
+  inputs = m.target_part.shape.outputs;
+  locals = m.source_part.shape.locals + m.target_part.shape.locals + length m.source_schedule.floors + length m.target_schedule.floors;
+  parameters = m.context.shape.parameters;
+}
+
+-- the columns of a schedule's floors as rows of their own: iterators, floors, parameters
+abbrev pub floor_shape : ℕ → ℕ → Schedule → Shape
+floor_shape iterators parameters schedule = record { outputs = 0; inputs = iterators; locals = length schedule.floors; parameters = parameters }
+
+-- the rows of a schedule's floors
+abbrev pub floors_of : ℕ → ℕ → Schedule → List PartRow
+floors_of iterators parameters schedule = floor_rows (floor_shape iterators parameters schedule) 0 schedule.floors
+
+-- the rows that the systems of all levels share: context, domain parts, floors, subscripts
+abbrev pub base_rows : Pairing → List PartRow
+base_rows m =
+    let w = widths_of m in
+    let parameters = m.context.shape.parameters in
+    placed_rows Context w m.context.rows
+    ++ (placed_rows SourcePart w m.source_part.rows
+    ++ (placed_rows TargetPart w m.target_part.rows
+    ++ (placed_rows SourceFloors w (floors_of w.source parameters m.source_schedule)
+    ++ (placed_rows TargetFloors w (floors_of w.target parameters m.target_schedule)
+    ++ rows_between (subscript_row w) m.source_access.subscripts m.target_access.subscripts))))
+
+-- the rows that say that the first k levels are equal
+abbrev pub equal_rows : Pairing → ℕ → List PartRow
+equal_rows m k = rows_between (equal_row (widths_of m)) (take k m.source_schedule.levels) (take k m.target_schedule.levels)
+
+-- the row that says that level k, from 0, is less in the source
+abbrev pub less_rows : Pairing → ℕ → List PartRow
+less_rows m k = rows_between (less_row (widths_of m)) (take 1 (drop k m.source_schedule.levels)) (take 1 (drop k m.target_schedule.levels))
+
+-- the rows of a level: the levels before it are equal, and it is less in the source; for level 0 all
+-- levels in common are equal
+abbrev pub level_rows : Pairing → ℕ → List PartRow
+level_rows m zero = equal_rows m (carried m.source_schedule.betas m.target_schedule.betas)
+level_rows m (suc k) = equal_rows m k ++ less_rows m k
+
+-- the system of two accesses to the subscripts, and that of one level
+abbrev pub base_of : Pairing → System
+base_of m = record { shape = system_shape m; rows = base_rows m }
+
+abbrev pub level_system : Pairing → ℕ → System
+level_system m level = record { shape = system_shape m; rows = base_rows m ++ level_rows m level }
+
+-- what stands where a number is out of range
+abbrev pub no_part : System
+no_part = no_rows (record { outputs = 0; inputs = 0; locals = 0; parameters = 0 })
+
+abbrev pub no_access : Access
+no_access = record { kind = Read; array = pos 0; subscripts = [] }
+
+abbrev pub no_side : Side
+no_side = record { iterators = 0; domain = []; accesses = []; schedule = no_schedule }
+
+-- what an entry's system is made of
+abbrev pub pairing_of : System → List Side → Dep → Pairing
+pairing_of context sides e =
+    let s = get_or sides (e.source - 1) no_side in
+    let t = get_or sides (e.target - 1) no_side in record {
+      context = context;
+      source_part = get_or s.domain (e.source_part - 1) no_part;
+      target_part = get_or t.domain (e.target_part - 1) no_part;
+      source_access = get_or s.accesses (e.source_access - 1) no_access;
+      target_access = get_or t.accesses (e.target_access - 1) no_access;
+      source_schedule = s.schedule;
+      target_schedule = t.schedule;
+    }
+
+-- the system of an entry
+abbrev pub system_of : System → List Side → Dep → System
+system_of context sides e = level_system (pairing_of context sides e) e.level
+
+-- the greatest sum of the absolute values of an entry's summands in the row i a + j b + k
+abbrev pub summed_weight : ℤ → ℤ → ℤ → Affine → Affine → ℕ
+summed_weight i j k a b =
+    max (combined_weight i a.parameters j b.parameters) (pair_weight i a.constant j b.constant + unsigned_abs k)
+
+-- the greatest one over the rows of two lists of values
+abbrev pub weight_between : ℤ → ℤ → ℤ → List Affine → List Affine → ℕ
+weight_between i j k [] ys = 0
+weight_between i j k (a ∷ xs) [] = 0
+weight_between i j k (a ∷ xs) (b ∷ ys) = max (summed_weight i j k a b) (weight_between i j k xs ys)
+
+-- that of the subscripts
+abbrev pub base_weight : Pairing → ℕ
+base_weight m = weight_between (pos 1) (negsuc 0) (pos 0) m.source_access.subscripts m.target_access.subscripts
+
+-- that of the first k levels, where they are equal
+abbrev pub equal_weight : Pairing → ℕ → ℕ
+equal_weight m k = weight_between (pos 1) (negsuc 0) (pos 0) (take k m.source_schedule.levels) (take k m.target_schedule.levels)
+
+-- that of level k, from 0, where it is less
+abbrev pub less_weight : Pairing → ℕ → ℕ
+less_weight m k = weight_between (negsuc 0) (pos 1) (negsuc 0) (take 1 (drop k m.source_schedule.levels)) (take 1 (drop k m.target_schedule.levels))
+
+-- that of the rows of a level
+abbrev pub level_weight : Pairing → ℕ → ℕ
+level_weight m zero = equal_weight m (carried m.source_schedule.betas m.target_schedule.betas)
+level_weight m (suc k) = max (equal_weight m k) (less_weight m k)
+
+-- the greatest sum of the absolute values of the summands of an entry in an entry's system
+abbrev pub summand_weight : System → List Side → Dep → ℕ
+summand_weight context sides e =
+    let m = pairing_of context sides e in max (base_weight m) (level_weight m e.level)

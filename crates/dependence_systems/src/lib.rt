@@ -1,0 +1,8 @@
+//! Dependence systems: the list of them for a SCoP, the rows of each, and the law that a pair of
+//! instances lies in one exactly where it conflicts.
+#![tactic(auto)]
+
+mod deps;
+mod widths;
+
+pub use deps::{Dep, DepKind};
