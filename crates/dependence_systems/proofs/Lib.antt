@@ -1,1 +1,3 @@
 mod Checks
+pub mod Differences
+pub mod Segments
