@@ -54,8 +54,8 @@ summed_value w i j k f g a b x y l m u v n r s at ia ib pa pb floors =
     = dot_append (combined i a.parameters j b.parameters) (c ∷ []) n (pos 1 ∷ []) (length_combined i a.parameters j b.parameters same ∙ pa) in
     let parameters : dot (combined i a.parameters j b.parameters) n ≡ (i *ℤ dot a.parameters n) +ℤ (j *ℤ dot b.parameters n) = dot_combined i a.parameters j b.parameters n same in
     let sum : dot (summed w i j k f g a b) (in_columns x y l m u v (n ++ pos 1 ∷ []))
-        ≡ dot (scale i a.iterators) x +ℤ (dot (scale j b.iterators) y +ℤ (dot (zeros w.source_part) l +ℤ (dot (zeros w.target_part) m
-        +ℤ (dot f u +ℤ (dot g v +ℤ dot (combined i a.parameters j b.parameters ++ c ∷ []) (n ++ pos 1 ∷ []))))))
+    ≡ dot (scale i a.iterators) x +ℤ (dot (scale j b.iterators) y +ℤ (dot (zeros w.source_part) l +ℤ (dot (zeros w.target_part) m
+    +ℤ (dot f u +ℤ (dot g v +ℤ dot (combined i a.parameters j b.parameters ++ c ∷ []) (n ++ pos 1 ∷ []))))))
     = dot_columns w _ _ _ _ _ _ (combined i a.parameters j b.parameters ++ c ∷ []) x y l m u v (n ++ pos 1 ∷ []) sizes at in
     let source : dot (scale i a.iterators) x ≡ i *ℤ dot a.iterators x = dot_scale i a.iterators x in
     let target : dot (scale j b.iterators) y ≡ j *ℤ dot b.iterators y = dot_scale j b.iterators y in

@@ -1,3 +1,4 @@
 mod Checks
 pub mod Differences
+pub mod RowMeanings
 pub mod Segments

@@ -32,7 +32,7 @@ dot_columns w s t p q f g r x y l m u v z a b =
     let e2 : dot (t ++ (p ++ (q ++ (f ++ (g ++ r))))) (y ++ (l ++ (m ++ (u ++ (v ++ z))))) ≡ dot t y +ℤ dot (p ++ (q ++ (f ++ (g ++ r)))) (l ++ (m ++ (u ++ (v ++ z))))
     = dot_append t (p ++ (q ++ (f ++ (g ++ r)))) y (l ++ (m ++ (u ++ (v ++ z)))) (a.target_is ∙ sym b.target_is) in
     let e1 : dot (s ++ (t ++ (p ++ (q ++ (f ++ (g ++ r)))))) (x ++ (y ++ (l ++ (m ++ (u ++ (v ++ z))))))
-        ≡ dot s x +ℤ dot (t ++ (p ++ (q ++ (f ++ (g ++ r))))) (y ++ (l ++ (m ++ (u ++ (v ++ z)))))
+    ≡ dot s x +ℤ dot (t ++ (p ++ (q ++ (f ++ (g ++ r))))) (y ++ (l ++ (m ++ (u ++ (v ++ z)))))
     = dot_append s (t ++ (p ++ (q ++ (f ++ (g ++ r))))) x (y ++ (l ++ (m ++ (u ++ (v ++ z))))) (a.source_is ∙ sym b.source_is) in
     e1 ∙ ap (λ k. dot s x +ℤ k) (e2 ∙ ap (λ k. dot t y +ℤ k) (e3 ∙ ap (λ k. dot p l +ℤ k) (e4 ∙ ap (λ k. dot q m +ℤ k) (e5 ∙ ap (λ k. dot f u +ℤ k) e6))))
 

@@ -1,6 +1,6 @@
 -- The list of dependence systems: what each is of.
 use Rattle.std.specs.Prelude.{ℕ, ◌+◌, ◌==◌, Bool, ◌&&◌, if◌then◌else◌, List, [], ◌∷◌, map, length, Option, Some, None}
-use Rattle.std.specs.List.{flat_map}
+use Rattle.std.specs.List.{flat_map, range_with_len}
 use Rattle.std.specs.Ordering.{int_eq}
 use Rattle.scop_core.specs.declared.accesses.AccessKind.{AccessKind}
 use Rattle.scop_core.specs.declared.accesses.AccessKind.TheVariants.{Read, Write, MayWrite}
@@ -8,7 +8,7 @@ use Rattle.scop_core.specs.declared.accesses.Access.{Access}
 use Rattle.dependence_systems.specs.declared.deps.Dep.{Dep}
 use Rattle.dependence_systems.specs.declared.deps.DepKind.{DepKind}
 use Rattle.dependence_systems.specs.declared.deps.DepKind.TheVariants.{Raw, War, Waw}
-use Rattle.dependence_systems.specs.Levels.{numbers, levels_between}
+use Rattle.dependence_systems.specs.LevelOrder.{levels_between}
 use Rattle.dependence_systems.specs.Sides.{Side}
 
 -- the members of a list with their numbers, the first one with number k
@@ -44,7 +44,7 @@ entries_of kind s t a b =
       source_part = p;
       target_part = q;
       level = level;
-    }) (levels_between s.1.schedule.betas t.1.schedule.betas)) (numbers 1 (length t.1.domain))) (numbers 1 (length s.1.domain))
+    }) (levels_between s.1.schedule.betas t.1.schedule.betas)) (range_with_len 1 (length t.1.domain))) (range_with_len 1 (length s.1.domain))
 
 -- the entries of two accesses, by the kind of their dependence
 abbrev pub entries_by : Option DepKind → ℕ × Side → ℕ × Side → ℕ × Access → ℕ × Access → List Dep

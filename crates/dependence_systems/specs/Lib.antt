@@ -1,4 +1,4 @@
 pub mod Entries
-pub mod Levels
+pub mod LevelOrder
 pub mod Sides
 pub mod Systems

@@ -14,7 +14,7 @@ use Rattle.dependence_systems.specs.declared.deps.Dep.{Dep}
 use Rattle.dependence_systems.specs.declared.widths.Widths.{Widths}
 use Rattle.dependence_systems.specs.declared.widths.Topic.{Topic}
 use Rattle.dependence_systems.specs.declared.widths.Topic.TheVariants.{Context, SourcePart, TargetPart, SourceFloors, TargetFloors}
-use Rattle.dependence_systems.specs.Levels.{carried}
+use Rattle.dependence_systems.specs.LevelOrder.{common_loops}
 use Rattle.dependence_systems.specs.Sides.{Side, no_schedule}
 
 -- what a system is made of: the context, and of source and target a domain part, an access and a schedule
@@ -128,7 +128,7 @@ less_rows m k = rows_between (less_row (widths_of m)) (take 1 (drop k m.source_s
 -- the rows of a level: the levels before it are equal, and it is less in the source; for level 0 all
 -- levels in common are equal
 abbrev pub level_rows : Pairing → ℕ → List PartRow
-level_rows m zero = equal_rows m (carried m.source_schedule.betas m.target_schedule.betas)
+level_rows m zero = equal_rows m (common_loops m.source_schedule.betas m.target_schedule.betas)
 level_rows m (suc k) = equal_rows m k ++ less_rows m k
 
 -- the system of two accesses to the subscripts, and that of one level
@@ -191,7 +191,7 @@ less_weight m k = weight_between (negsuc 0) (pos 1) (negsuc 0) (take 1 (drop k m
 
 -- that of the rows of a level
 abbrev pub level_weight : Pairing → ℕ → ℕ
-level_weight m zero = equal_weight m (carried m.source_schedule.betas m.target_schedule.betas)
+level_weight m zero = equal_weight m (common_loops m.source_schedule.betas m.target_schedule.betas)
 level_weight m (suc k) = max (equal_weight m k) (less_weight m k)
 
 -- the greatest sum of the absolute values of the summands of an entry in an entry's system
