@@ -1,4 +1,5 @@
 pub mod Entries
+pub mod Fits
 pub mod LevelOrder
 pub mod Sides
 pub mod Systems

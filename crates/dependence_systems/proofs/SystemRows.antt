@@ -1,0 +1,122 @@
+-- A point in pieces meets the rows of a system exactly where each piece meets the rows of its side.
+use Rattle.std.proofs.Common.{◌≡◌, ℕ, zero, suc, ◌+◌, ◌<◌, ◌≤◌, List, [], ◌∷◌, ◌++◌, length, All, ℤ, pos, ap, sym, ◌∙◌, subst, arith}
+use Rattle.std.specs.Prelude.{◌↔◌}
+use Rattle.relation_core.specs.Systems.{System, ReachTo, row_at, width}
+use Rattle.relation_core.specs.Points.{MeetsAll, coordinates}
+use Rattle.relation_core.specs.declared.part_rows.PartRow.{PartRow}
+use Rattle.relation_core.proofs.Points.{meets_append, meets_front, meets_back}
+use Rattle.scop_core.specs.declared.schedules.Schedule.{Schedule}
+use Rattle.scop_core.specs.SolvedRows.{HasSizes}
+use Rattle.scop_core.specs.Meaning.{levels_at}
+use Rattle.scop_core.specs.ReadBack.{IsSolvedSchedule}
+use Rattle.dependence_systems.specs.declared.widths.Widths.{Widths}
+use Rattle.dependence_systems.specs.declared.widths.Topic.TheVariants.{Context, SourcePart, TargetPart, SourceFloors, TargetFloors}
+use Rattle.dependence_systems.specs.LevelOrder.{common_loops, OrdersAt, IsLevel}
+use Rattle.dependence_systems.specs.Fits.{ContextFits, PartFits, PairingFits}
+use Rattle.dependence_systems.specs.Systems.{Pairing, widths_of, in_columns, placed_rows, rows_between, subscript_row, floor_shape, floors_of, base_rows, equal_rows, less_rows, level_rows}
+use Rattle.dependence_systems.proofs.Segments.{HasWidths, context_value, source_part_value, target_part_value, source_floors_value, target_floors_value}
+use Rattle.dependence_systems.proofs.RowMeanings.{placed_meet, subscript_rows_meet, equal_rows_meet, less_rows_meet, floors_reach}
+
+-- each piece of a point meets the rows of its side: locals of the domain parts in l and m, floors in u and v
+pub record BaseHolds (m : Pairing) (x y l k u v n : List ℤ) : Type 0 where
+  pub context : MeetsAll m.context.rows (n ++ pos 1 ∷ [])
+  pub source_part : MeetsAll m.source_part.rows (x ++ (l ++ (n ++ pos 1 ∷ [])))
+  pub target_part : MeetsAll m.target_part.rows (y ++ (k ++ (n ++ pos 1 ∷ [])))
+  pub source_floors : MeetsAll (floors_of m.source_part.shape.outputs m.context.shape.parameters m.source_schedule) (x ++ (u ++ (n ++ pos 1 ∷ [])))
+  pub target_floors : MeetsAll (floors_of m.target_part.shape.outputs m.context.shape.parameters m.target_schedule) (y ++ (v ++ (n ++ pos 1 ∷ [])))
+  pub subscripts : levels_at m.source_access.subscripts x [] n ≡ levels_at m.target_access.subscripts y [] n
+
+-- the rows of a domain part are wide enough
+part_reach : (iterators parameters : ℕ) (part : System) → PartFits iterators parameters part → ReachTo (part.shape.outputs + part.shape.locals) part.rows
+part_reach iterators parameters part fits i h = omega (arith, fits.widths i h)
+
+schedule_reach : (iterators parameters : ℕ) (schedule : Schedule) → IsSolvedSchedule iterators parameters schedule
+    → ReachTo (iterators + length schedule.floors) (floors_of iterators parameters schedule)
+schedule_reach iterators parameters schedule solved =
+    floors_reach (floor_shape iterators parameters schedule) 0 schedule.floors (omega arith) solved.relation.floors
+
+-- what the placed rows of each topic say
+record Placed (m : Pairing) (x y l k u v n : List ℤ) : Type 0 where
+  context : MeetsAll (placed_rows Context (widths_of m) m.context.rows) (in_columns x y l k u v (n ++ pos 1 ∷ [])) ↔ MeetsAll m.context.rows (n ++ pos 1 ∷ [])
+  source_part : MeetsAll (placed_rows SourcePart (widths_of m) m.source_part.rows) (in_columns x y l k u v (n ++ pos 1 ∷ []))
+      ↔ MeetsAll m.source_part.rows (x ++ (l ++ (n ++ pos 1 ∷ [])))
+  target_part : MeetsAll (placed_rows TargetPart (widths_of m) m.target_part.rows) (in_columns x y l k u v (n ++ pos 1 ∷ []))
+      ↔ MeetsAll m.target_part.rows (y ++ (k ++ (n ++ pos 1 ∷ [])))
+  source_floors : MeetsAll (placed_rows SourceFloors (widths_of m) (floors_of m.source_part.shape.outputs m.context.shape.parameters m.source_schedule)) (in_columns x y l k u v (n ++ pos 1 ∷ []))
+      ↔ MeetsAll (floors_of m.source_part.shape.outputs m.context.shape.parameters m.source_schedule) (x ++ (u ++ (n ++ pos 1 ∷ [])))
+  target_floors : MeetsAll (placed_rows TargetFloors (widths_of m) (floors_of m.target_part.shape.outputs m.context.shape.parameters m.target_schedule)) (in_columns x y l k u v (n ++ pos 1 ∷ []))
+      ↔ MeetsAll (floors_of m.target_part.shape.outputs m.context.shape.parameters m.target_schedule) (y ++ (v ++ (n ++ pos 1 ∷ [])))
+  subscripts : MeetsAll (rows_between (subscript_row (widths_of m)) m.source_access.subscripts m.target_access.subscripts) (in_columns x y l k u v (n ++ pos 1 ∷ []))
+      ↔ (levels_at m.source_access.subscripts x [] n ≡ levels_at m.target_access.subscripts y [] n)
+
+placed_means : (m : Pairing) (x y l k u v n : List ℤ) → PairingFits m → HasWidths (widths_of m) x y l k u v → length n ≡ m.context.shape.parameters → Placed m x y l k u v n
+placed_means m x y l k u v n fits at en =
+    let w = widths_of m in
+    let z = n ++ pos 1 ∷ [] in
+    let whole = in_columns x y l k u v z in record {
+      context = placed_meet Context w 0 whole z (λ row h. context_value w row x y l k u v z at) m.context.rows (λ i h. omega arith);
+      source_part = placed_meet SourcePart w (w.source + w.source_part) whole (x ++ (l ++ z)) (λ row h. source_part_value w row x y l k u v z h at)
+          m.source_part.rows (part_reach _ _ m.source_part fits.source_part);
+      target_part = placed_meet TargetPart w (w.target + w.target_part) whole (y ++ (k ++ z)) (λ row h. target_part_value w row x y l k u v z h at)
+          m.target_part.rows (part_reach _ _ m.target_part fits.target_part);
+      source_floors = placed_meet SourceFloors w (w.source + w.source_floors) whole (x ++ (u ++ z)) (λ row h. source_floors_value w row x y l k u v z h at)
+          _ (schedule_reach w.source m.context.shape.parameters m.source_schedule fits.source_schedule);
+      target_floors = placed_meet TargetFloors w (w.target + w.target_floors) whole (y ++ (v ++ z)) (λ row h. target_floors_value w row x y l k u v z h at)
+          _ (schedule_reach w.target m.context.shape.parameters m.target_schedule fits.target_schedule);
+      subscripts = subscript_rows_meet w m.source_access.subscripts m.target_access.subscripts x y l k u v n at fits.subscripts
+          (subst (λ c. All (HasSizes w.source 0 c) m.source_access.subscripts) (sym en) fits.source_subscripts)
+          (subst (λ c. All (HasSizes w.target 0 c) m.target_access.subscripts) (sym en) fits.target_subscripts);
+    }
+
+pub base_meets : (m : Pairing) (x y l k u v n : List ℤ) → PairingFits m → HasWidths (widths_of m) x y l k u v → length n ≡ m.context.shape.parameters
+    → MeetsAll (base_rows m) (in_columns x y l k u v (n ++ pos 1 ∷ [])) ↔ BaseHolds m x y l k u v n
+base_meets m x y l k u v n fits at en = (forwards, backwards)
+  where
+    w : Widths
+    w = widths_of m
+
+    whole : List ℤ
+    whole = in_columns x y l k u v (n ++ pos 1 ∷ [])
+
+    said : Placed m x y l k u v n
+    said = placed_means m x y l k u v n fits at en
+
+    one : List PartRow
+    one = placed_rows Context w m.context.rows
+
+    two : List PartRow
+    two = placed_rows SourcePart w m.source_part.rows
+
+    three : List PartRow
+    three = placed_rows TargetPart w m.target_part.rows
+
+    four : List PartRow
+    four = placed_rows SourceFloors w (floors_of w.source m.context.shape.parameters m.source_schedule)
+
+    five : List PartRow
+    five = placed_rows TargetFloors w (floors_of w.target m.context.shape.parameters m.target_schedule)
+
+    six : List PartRow
+    six = rows_between (subscript_row w) m.source_access.subscripts m.target_access.subscripts
+
+    forwards : MeetsAll (one ++ (two ++ (three ++ (four ++ (five ++ six))))) whole → BaseHolds m x y l k u v n
+    forwards h =
+        let h2 = meets_back one (two ++ (three ++ (four ++ (five ++ six)))) whole h in
+        let h3 = meets_back two (three ++ (four ++ (five ++ six))) whole h2 in
+        let h4 = meets_back three (four ++ (five ++ six)) whole h3 in
+        let h5 = meets_back four (five ++ six) whole h4 in record {
+          context = said.context.0 (meets_front one (two ++ (three ++ (four ++ (five ++ six)))) whole h);
+          source_part = said.source_part.0 (meets_front two (three ++ (four ++ (five ++ six))) whole h2);
+          target_part = said.target_part.0 (meets_front three (four ++ (five ++ six)) whole h3);
+          source_floors = said.source_floors.0 (meets_front four (five ++ six) whole h4);
+          target_floors = said.target_floors.0 (meets_front five six whole h5);
+          subscripts = said.subscripts.0 (meets_back five six whole h5);
+        }
+
+    backwards : BaseHolds m x y l k u v n → MeetsAll (one ++ (two ++ (three ++ (four ++ (five ++ six))))) whole
+    backwards h =
+        meets_append one (two ++ (three ++ (four ++ (five ++ six)))) whole (said.context.1 h.context)
+        (meets_append two (three ++ (four ++ (five ++ six))) whole (said.source_part.1 h.source_part)
+        (meets_append three (four ++ (five ++ six)) whole (said.target_part.1 h.target_part)
+        (meets_append four (five ++ six) whole (said.source_floors.1 h.source_floors)
+        (meets_append five six whole (said.target_floors.1 h.target_floors) (said.subscripts.1 h.subscripts)))))
