@@ -1,6 +1,7 @@
 -- A point in pieces meets the rows of a system exactly where each piece meets the rows of its side.
-use Rattle.std.proofs.Common.{◌≡◌, ℕ, zero, suc, ◌+◌, ◌<◌, ◌≤◌, List, [], ◌∷◌, ◌++◌, length, All, ℤ, pos, ap, sym, ◌∙◌, subst, arith}
+use Rattle.std.proofs.Common.{◌≡◌, ℕ, zero, suc, ◌+◌, ◌<◌, ◌≤◌, Bool, true, false, if◌then◌else◌, List, [], ◌∷◌, ◌++◌, length, All, ℤ, pos, ap, sym, ◌∙◌, subst, arith}
 use Rattle.std.specs.Prelude.{◌↔◌}
+use Rattle.std.specs.Ordering.{int_eq}
 use Rattle.relation_core.specs.Systems.{System, ReachTo, row_at, width}
 use Rattle.relation_core.specs.Points.{MeetsAll, coordinates}
 use Rattle.relation_core.specs.declared.part_rows.PartRow.{PartRow}
@@ -120,3 +121,57 @@ base_meets m x y l k u v n fits at en = (forwards, backwards)
         (meets_append three (four ++ (five ++ six)) whole (said.target_part.1 h.target_part)
         (meets_append four (five ++ six) whole (said.source_floors.1 h.source_floors)
         (meets_append five six whole (said.target_floors.1 h.target_floors) (said.subscripts.1 h.subscripts)))))
+
+-- loops in common are levels of both
+common_left : (p q : List ℤ) → 1 ≤ length p → common_loops p q + 1 ≤ length p
+common_left [] q h = absurd (omega arith)
+common_left (b ∷ []) q h = omega arith
+common_left (b ∷ (b' ∷ p)) [] h = omega arith
+common_left (b ∷ (b' ∷ p)) (c ∷ []) h = omega arith
+common_left (b ∷ (b' ∷ p)) (c ∷ (c' ∷ q)) h = by (int_eq b c) (common_left (b' ∷ p) (c' ∷ q) (omega arith))
+  where
+    by : (t : Bool) → common_loops (b' ∷ p) (c' ∷ q) + 1 ≤ length (b' ∷ p) → (if t then suc (common_loops (b' ∷ p) (c' ∷ q)) else 0) + 1 ≤ length (b ∷ (b' ∷ p))
+    by true rest = omega arith
+    by false rest = omega arith
+
+common_right : (p q : List ℤ) → 1 ≤ length q → common_loops p q + 1 ≤ length q
+common_right [] q h = omega arith
+common_right (b ∷ []) q h = omega arith
+common_right (b ∷ (b' ∷ p)) [] h = absurd (omega arith)
+common_right (b ∷ (b' ∷ p)) (c ∷ []) h = omega arith
+common_right (b ∷ (b' ∷ p)) (c ∷ (c' ∷ q)) h = by (int_eq b c) (common_right (b' ∷ p) (c' ∷ q) (omega arith))
+  where
+    by : (t : Bool) → common_loops (b' ∷ p) (c' ∷ q) + 1 ≤ length (c' ∷ q) → (if t then suc (common_loops (b' ∷ p) (c' ∷ q)) else 0) + 1 ≤ length (c ∷ (c' ∷ q))
+    by true rest = omega arith
+    by false rest = omega arith
+
+pub common_levels : (m : Pairing) → PairingFits m → (common_loops m.source_schedule.betas m.target_schedule.betas ≤ length m.source_schedule.levels)
+    × (common_loops m.source_schedule.betas m.target_schedule.betas ≤ length m.target_schedule.levels)
+common_levels m fits =
+    let p = m.source_schedule.betas in
+    let q = m.target_schedule.betas in
+    let source = fits.source_schedule.relation.betas in
+    let target = fits.target_schedule.relation.betas in
+    (omega (arith, common_left p q (omega (arith, source))), omega (arith, common_right p q (omega (arith, target))))
+
+-- the rows of a level hold where the level orders the two
+pub level_meets : (m : Pairing) (level : ℕ) (x y l k u v n : List ℤ) → PairingFits m → HasWidths (widths_of m) x y l k u v → length n ≡ m.context.shape.parameters
+    → IsLevel m.source_schedule.betas m.target_schedule.betas level
+    → MeetsAll (level_rows m level) (in_columns x y l k u v (n ++ pos 1 ∷ []))
+    ↔ OrdersAt (common_loops m.source_schedule.betas m.target_schedule.betas) (levels_at m.source_schedule.levels x u n) (levels_at m.target_schedule.levels y v n) level
+level_meets m zero x y l k u v n fits at en is_level =
+    let w = widths_of m in
+    let common = common_levels m fits in
+    equal_rows_meet w (common_loops m.source_schedule.betas m.target_schedule.betas) m.source_schedule.levels m.target_schedule.levels x y l k u v n at common.0 common.1
+    (subst (λ c. All (HasSizes w.source w.source_floors c) m.source_schedule.levels) (sym en) fits.source_schedule.relation.levels)
+    (subst (λ c. All (HasSizes w.target w.target_floors c) m.target_schedule.levels) (sym en) fits.target_schedule.relation.levels)
+level_meets m (suc j) x y l k u v n fits at en is_level =
+    let w = widths_of m in
+    let whole = in_columns x y l k u v (n ++ pos 1 ∷ []) in
+    let common = common_levels m fits in
+    let means = less_rows_meet w j m.source_schedule.levels m.target_schedule.levels x y l k u v n at (omega (arith, is_level, common.0)) (omega (arith, is_level, common.1))
+        (subst (λ c. All (HasSizes w.source w.source_floors c) m.source_schedule.levels) (sym en) fits.source_schedule.relation.levels)
+        (subst (λ c. All (HasSizes w.target w.target_floors c) m.target_schedule.levels) (sym en) fits.target_schedule.relation.levels) in (
+      λ h. means.0 (meets_front (equal_rows m j) (less_rows m j) whole h, meets_back (equal_rows m j) (less_rows m j) whole h),
+      λ h. let r = means.1 h in meets_append (equal_rows m j) (less_rows m j) whole r.0 r.1,
+    )
