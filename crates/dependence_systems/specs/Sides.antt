@@ -1,12 +1,10 @@
 -- The two sides of a dependence: statements, each with the schedule by which its instances are ordered.
-use Rattle.std.specs.Prelude.{◌≡◌, ◌⊎◌, ℕ, ◌+◌, List, [], ◌∷◌, map, length, Option, Some, None, All, IsSomeAnd}
+use Rattle.std.specs.Prelude.{◌≡◌, ℕ, zero, suc, List, [], ◌∷◌, map, length, slice_get, Option, Some, None, IsSomeAnd}
 use Rattle.relation_core.specs.Systems.{System}
-use Rattle.relation_core.specs.Points.{LiesInSome}
 use Rattle.scop_core.specs.declared.accesses.Access.{Access}
 use Rattle.scop_core.specs.declared.schedules.Schedule.{Schedule}
 use Rattle.scop_core.specs.declared.statements.Statement.{Statement}
 use Rattle.scop_core.specs.ScopData.{ScopData}
-use Rattle.scop_core.specs.Meaning.{statement_at}
 
 -- a statement as a source or a target: the number of its iterators, its domain, its accesses and a schedule
 pub record Side : Type 0 where
@@ -15,11 +13,16 @@ pub record Side : Type 0 where
   pub accesses : List Access
   pub schedule : Schedule
 
+-- member number k of a list, from 1
+abbrev pub member : {X : Type 0} → List X → ℕ → Option X
+member xs zero = None
+member xs (suc k) = slice_get xs k
+
 -- the schedule of nothing
 abbrev pub no_schedule : Schedule
 no_schedule = record { floors = []; levels = []; betas = [] }
 
--- the schedule of a statement, where there is one
+-- the schedule of statement number k, from 1
 abbrev pub schedule_in : Option Statement → Schedule
 schedule_in None = no_schedule
 schedule_in (Some s) = s.schedule
@@ -32,7 +35,7 @@ under s schedule = record { iterators = length s.body.iterators; domain = s.doma
 abbrev pub under_originals : List Statement → List Statement → List ℕ → List Side
 under_originals old [] of = []
 under_originals old (s ∷ now) [] = []
-under_originals old (s ∷ now) (k ∷ of) = under s (schedule_in (statement_at old k)) ∷ under_originals old now of
+under_originals old (s ∷ now) (k ∷ of) = under s (schedule_in (member old k)) ∷ under_originals old now of
 
 -- the statements of `now` under the schedules that their originals have in `old`
 abbrev pub sides : ScopData → ScopData → List ℕ → List Side

@@ -1,5 +1,5 @@
 -- The rows of a dependence system, over unbounded integers.
-use Rattle.std.specs.Prelude.{ℤ, pos, negsuc, ◌+ℤ◌, ◌*ℤ◌, ℕ, zero, suc, ◌+◌, ◌-◌, List, [], ◌∷◌, ◌++◌, map, take, drop, length, get_or, max, unsigned_abs}
+use Rattle.std.specs.Prelude.{ℤ, pos, negsuc, ◌+ℤ◌, ◌*ℤ◌, ℕ, zero, suc, ◌+◌, List, [], ◌∷◌, ◌++◌, map, take, drop, length, Option, Some, None, max, unsigned_abs}
 use Rattle.row_core.specs.Rows.{scale, combined, combined_weight, pair_weight}
 use Rattle.relation_core.specs.Systems.{System, no_rows}
 use Rattle.relation_core.specs.declared.shapes.Shape.{Shape}
@@ -15,7 +15,7 @@ use Rattle.dependence_systems.specs.declared.widths.Widths.{Widths}
 use Rattle.dependence_systems.specs.declared.widths.Topic.{Topic}
 use Rattle.dependence_systems.specs.declared.widths.Topic.TheVariants.{Context, SourcePart, TargetPart, SourceFloors, TargetFloors}
 use Rattle.dependence_systems.specs.LevelOrder.{common_loops}
-use Rattle.dependence_systems.specs.Sides.{Side, no_schedule}
+use Rattle.dependence_systems.specs.Sides.{Side, no_schedule, member}
 
 -- what a system is made of: the context, and of source and target a domain part, an access and a schedule
 pub record Pairing : Type 0 where
@@ -148,16 +148,21 @@ no_access = record { kind = Read; array = pos 0; subscripts = [] }
 abbrev pub no_side : Side
 no_side = record { iterators = 0; domain = []; accesses = []; schedule = no_schedule }
 
+-- member number k of a list, or what stands for it
+abbrev pub member_or : {X : Type 0} → X → Option X → X
+member_or nothing None = nothing
+member_or nothing (Some x) = x
+
 -- what an entry's system is made of
 abbrev pub pairing_of : System → List Side → Dep → Pairing
 pairing_of context sides e =
-    let s = get_or sides (e.source - 1) no_side in
-    let t = get_or sides (e.target - 1) no_side in record {
+    let s = member_or no_side (member sides e.source) in
+    let t = member_or no_side (member sides e.target) in record {
       context = context;
-      source_part = get_or s.domain (e.source_part - 1) no_part;
-      target_part = get_or t.domain (e.target_part - 1) no_part;
-      source_access = get_or s.accesses (e.source_access - 1) no_access;
-      target_access = get_or t.accesses (e.target_access - 1) no_access;
+      source_part = member_or no_part (member s.domain e.source_part);
+      target_part = member_or no_part (member t.domain e.target_part);
+      source_access = member_or no_access (member s.accesses e.source_access);
+      target_access = member_or no_access (member t.accesses e.target_access);
       source_schedule = s.schedule;
       target_schedule = t.schedule;
     }
