@@ -1,5 +1,6 @@
 mod Checks
 pub mod Differences
+pub mod EntryFound
 pub mod Members
 pub mod RowMeanings
 pub mod Segments
