@@ -14,7 +14,7 @@ use Rattle.scop_core.specs.ScopData.{ScopData}
 use Rattle.dependence_systems.specs.declared.deps.Dep.{Dep}
 use Rattle.dependence_systems.specs.declared.deps.DepKind.{DepKind}
 use Rattle.dependence_systems.specs.declared.deps.DepKind.TheVariants.{Raw, War, Waw}
-use Rattle.dependence_systems.specs.LevelOrder.{levels_between}
+use Rattle.scop_core.specs.LevelOrder.{levels_between}
 use Rattle.dependence_systems.specs.Sides.{sides, own_sides}
 use Rattle.dependence_systems.specs.Entries.{entries}
 use Rattle.dependence_systems.specs.Systems.{system_of, summand_weight}

@@ -1,39 +1,16 @@
 -- An entry is in the list exactly where its statements, accesses and parts are there, its accesses can meet, and its level is one of theirs.
-use Rattle.std.proofs.Common.{◌≡◌, ◌⊎◌, inl, inr, ℕ, zero, suc, ◌+◌, ◌<◌, ℤ, List, [], ◌∷◌, ◌++◌, map, length, Bool, true, false, if◌then◌else◌, Option, Some, None, refl, ap, sym, ◌∙◌, subst, arith}
+use Rattle.std.proofs.Common.{◌≡◌, ℕ, List, [], map, length, Bool, true, false, if◌then◌else◌, Option, Some, None, refl, sym, subst}
 use Rattle.std.specs.List.{flat_map, range_with_len}
 use Rattle.relation_core.specs.Systems.{System}
 use Rattle.scop_core.specs.declared.accesses.Access.{Access}
 use Rattle.scop_core.specs.Sequences.{In}
 use Rattle.dependence_systems.specs.declared.deps.Dep.{Dep}
 use Rattle.dependence_systems.specs.declared.deps.DepKind.{DepKind}
-use Rattle.dependence_systems.specs.LevelOrder.{common_loops, is_textually_before, IsLevel, levels_between}
+use Rattle.scop_core.specs.LevelOrder.{IsLevel, levels_between}
+use Rattle.scop_core.proofs.LevelOrder.{levels_are_listed}
 use Rattle.dependence_systems.specs.Sides.{Side, member}
 use Rattle.dependence_systems.specs.Entries.{numbered, kind_between, can_meet, entries_of, entries_by, between, entries}
-use Rattle.dependence_systems.proofs.Members.{in_left, in_right, in_either, From, in_flat_map, from_flat_map, Image, in_map, from_map, numbered_member, member_numbered, in_range, from_range, member_of_range, range_of_member}
-
--- levels as a list and as a predicate
-pub level_listed : (p q : List ℤ) (level : ℕ) → IsLevel p q level → In level (levels_between p q)
-level_listed p q zero h =
-    let none : ℕ = 0 in
-    let last : In none (if is_textually_before p q then none ∷ [] else []) = subst (λ t. In none (if t then none ∷ [] else [])) (sym h) (inl refl) in
-    in_right none (range_with_len 1 (common_loops p q)) _ last
-level_listed p q (suc j) h =
-    in_left (suc j) (range_with_len 1 (common_loops p q)) _ (subst (λ n. In n (range_with_len 1 (common_loops p q))) (omega arith) (in_range 1 j (common_loops p q) h))
-
-pub listed_level : (p q : List ℤ) (level : ℕ) → In level (levels_between p q) → IsLevel p q level
-listed_level p q level h = elim (in_either level (range_with_len 1 (common_loops p q)) (if is_textually_before p q then 0 ∷ [] else []) h) [
-  | inl i ↦ carried level (from_range 1 (common_loops p q) level i)
-  | inr i ↦ textual (is_textually_before p q) refl i
-]
-  where
-    carried : (n : ℕ) → (j : ℕ) × (j < common_loops p q) × (n ≡ 1 + j) → IsLevel p q n
-    carried zero r = absurd (omega (arith, r.2))
-    carried (suc n) r = omega (arith, r.1, r.2)
-
-    textual : (t : Bool) → is_textually_before p q ≡ t → In level (if t then 0 ∷ [] else []) → IsLevel p q level
-    textual true e (inl z) = subst (λ n. IsLevel p q n) z e
-    textual true e (inr i) = absurd i
-    textual false e i = absurd i
+use Rattle.dependence_systems.proofs.Members.{From, in_flat_map, from_flat_map, Image, in_map, from_map, numbered_member, member_numbered, member_of_range, range_of_member}
 
 -- what an entry of the list is of
 pub record IsEntry (sides : List Side) (e : Dep) : Type 0 where
@@ -76,7 +53,7 @@ entry_listed sides e h =
     let a : ℕ × Access = (e.source_access, h.first) in
     let b : ℕ × Access = (e.target_access, h.second) in
     let levels : In e (levels_at_parts e.kind s t a b e.source_part e.target_part)
-    = in_map (λ level. entry_at e.kind s t a b e.source_part e.target_part level) (levels_between h.source.schedule.betas h.target.schedule.betas) e.level (level_listed h.source.schedule.betas h.target.schedule.betas e.level h.level) in
+    = in_map (λ level. entry_at e.kind s t a b e.source_part e.target_part level) (levels_between h.source.schedule.betas h.target.schedule.betas) e.level ((levels_are_listed h.source.schedule.betas h.target.schedule.betas e.level).1 h.level) in
     let parts : In e (entries_of e.kind s t a b) = in_flat_map _ (range_with_len 1 (length h.source.domain)) e (record {
       origin = e.source_part;
       listed = range_of_member h.source.domain e.source_part h.source_domain h.source_domain_is;
@@ -158,4 +135,4 @@ listed_entry sides e h =
     entry_is sides s t a b kinds.kind ps.origin qs.origin levels.origin e levels.made
     (member_numbered sides s ss.listed) (member_numbered sides t ts.listed) (member_numbered s.1.accesses a firsts.listed) (member_numbered t.1.accesses b seconds.listed)
     (member_of_range s.1.domain ps.origin ps.listed) (member_of_range t.1.domain qs.origin qs.listed) kinds.kind_is kinds.meet
-    (listed_level s.1.schedule.betas t.1.schedule.betas levels.origin levels.listed)
+    ((levels_are_listed s.1.schedule.betas t.1.schedule.betas levels.origin).0 levels.listed)

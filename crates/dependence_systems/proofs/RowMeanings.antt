@@ -18,7 +18,7 @@ use Rattle.scop_core.proofs.ReadBackLists.{length_raised}
 use Rattle.scop_core.proofs.ReadBackRows.{first}
 use Rattle.dependence_systems.specs.declared.widths.Widths.{Widths}
 use Rattle.dependence_systems.specs.declared.widths.Topic.{Topic}
-use Rattle.dependence_systems.specs.LevelOrder.{EqualUpTo, LessAfter}
+use Rattle.scop_core.specs.LevelOrder.{EqualUpTo, LessAfter}
 use Rattle.dependence_systems.specs.Systems.{in_columns, placed, placed_rows, subscript_row, equal_row, less_row, rows_between}
 use Rattle.dependence_systems.proofs.Segments.{HasWidths, length_zeros}
 use Rattle.dependence_systems.proofs.Differences.{subscripts_meet, levels_meet, less_meets}

@@ -1,20 +1,22 @@
 -- A point in pieces meets the rows of a system exactly where each piece meets the rows of its side.
-use Rattle.std.proofs.Common.{◌≡◌, ℕ, zero, suc, ◌+◌, ◌<◌, ◌≤◌, Bool, true, false, if◌then◌else◌, List, [], ◌∷◌, ◌++◌, length, All, ℤ, pos, ap, sym, ◌∙◌, subst, arith}
+use Rattle.std.proofs.Common.{◌≡◌, ℕ, zero, suc, ◌+◌, ◌<◌, ◌≤◌, List, [], ◌∷◌, ◌++◌, length, All, ℤ, pos, ap, sym, ◌∙◌, subst, arith}
 use Rattle.std.specs.Prelude.{◌↔◌}
-use Rattle.std.specs.Ordering.{int_eq}
+use Rattle.std.proofs.lemmas.List.{length-map}
 use Rattle.relation_core.specs.Systems.{System, ReachTo, row_at, width}
 use Rattle.relation_core.specs.Points.{MeetsAll, coordinates}
 use Rattle.relation_core.specs.declared.part_rows.PartRow.{PartRow}
 use Rattle.relation_core.proofs.Points.{meets_append, meets_front, meets_back}
 use Rattle.scop_core.specs.declared.schedules.Schedule.{Schedule}
-use Rattle.scop_core.specs.SolvedRows.{HasSizes}
-use Rattle.scop_core.specs.Meaning.{levels_at}
+use Rattle.scop_core.specs.SolvedRows.{HasSizes, floor_shape, floor_part}
+use Rattle.scop_core.specs.Held.{IsFormed}
+use Rattle.scop_core.specs.Meaning.{affine_at, levels_at}
 use Rattle.scop_core.specs.ReadBack.{IsSolvedSchedule}
+use Rattle.scop_core.proofs.LevelOrder.{loops_are_common}
 use Rattle.dependence_systems.specs.declared.widths.Widths.{Widths}
 use Rattle.dependence_systems.specs.declared.widths.Topic.TheVariants.{Context, SourcePart, TargetPart, SourceFloors, TargetFloors}
-use Rattle.dependence_systems.specs.LevelOrder.{common_loops, OrdersAt, IsLevel}
-use Rattle.dependence_systems.specs.Fits.{ContextFits, PartFits, PairingFits}
-use Rattle.dependence_systems.specs.Systems.{Pairing, widths_of, in_columns, placed_rows, rows_between, subscript_row, floor_shape, floors_of, base_rows, equal_rows, less_rows, level_rows}
+use Rattle.scop_core.specs.LevelOrder.{common_loops, OrdersAt, IsLevel}
+use Rattle.dependence_systems.specs.Fits.{PairingFits}
+use Rattle.dependence_systems.specs.Systems.{Pairing, widths_of, in_columns, placed_rows, rows_between, subscript_row, base_rows, equal_rows, less_rows, level_rows}
 use Rattle.dependence_systems.proofs.Segments.{HasWidths, context_value, source_part_value, target_part_value, source_floors_value, target_floors_value}
 use Rattle.dependence_systems.proofs.RowMeanings.{placed_meet, subscript_rows_meet, equal_rows_meet, less_rows_meet, floors_reach}
 
@@ -23,18 +25,18 @@ pub record BaseHolds (m : Pairing) (x y l k u v n : List ℤ) : Type 0 where
   pub context : MeetsAll m.context.rows (n ++ pos 1 ∷ [])
   pub source_part : MeetsAll m.source_part.rows (x ++ (l ++ (n ++ pos 1 ∷ [])))
   pub target_part : MeetsAll m.target_part.rows (y ++ (k ++ (n ++ pos 1 ∷ [])))
-  pub source_floors : MeetsAll (floors_of m.source_part.shape.outputs m.context.shape.parameters m.source_schedule) (x ++ (u ++ (n ++ pos 1 ∷ [])))
-  pub target_floors : MeetsAll (floors_of m.target_part.shape.outputs m.context.shape.parameters m.target_schedule) (y ++ (v ++ (n ++ pos 1 ∷ [])))
+  pub source_floors : MeetsAll (floor_part m.source_part.shape.outputs m.context.shape.parameters m.source_schedule.floors).rows (x ++ (u ++ (n ++ pos 1 ∷ [])))
+  pub target_floors : MeetsAll (floor_part m.target_part.shape.outputs m.context.shape.parameters m.target_schedule.floors).rows (y ++ (v ++ (n ++ pos 1 ∷ [])))
   pub subscripts : levels_at m.source_access.subscripts x [] n ≡ levels_at m.target_access.subscripts y [] n
 
 -- the rows of a domain part are wide enough
-part_reach : (iterators parameters : ℕ) (part : System) → PartFits iterators parameters part → ReachTo (part.shape.outputs + part.shape.locals) part.rows
-part_reach iterators parameters part fits i h = omega (arith, fits.widths i h)
+part_reach : (part : System) → IsFormed part → ReachTo (part.shape.outputs + part.shape.locals) part.rows
+part_reach part formed i h = omega (arith, formed.widths i h)
 
 schedule_reach : (iterators parameters : ℕ) (schedule : Schedule) → IsSolvedSchedule iterators parameters schedule
-    → ReachTo (iterators + length schedule.floors) (floors_of iterators parameters schedule)
+    → ReachTo (iterators + length schedule.floors) (floor_part iterators parameters schedule.floors).rows
 schedule_reach iterators parameters schedule solved =
-    floors_reach (floor_shape iterators parameters schedule) 0 schedule.floors (omega arith) solved.relation.floors
+    floors_reach (floor_shape iterators parameters schedule.floors) 0 schedule.floors (omega arith) solved.relation.floors
 
 -- what the placed rows of each topic say
 record Placed (m : Pairing) (x y l k u v n : List ℤ) : Type 0 where
@@ -43,10 +45,10 @@ record Placed (m : Pairing) (x y l k u v n : List ℤ) : Type 0 where
       ↔ MeetsAll m.source_part.rows (x ++ (l ++ (n ++ pos 1 ∷ [])))
   target_part : MeetsAll (placed_rows TargetPart (widths_of m) m.target_part.rows) (in_columns x y l k u v (n ++ pos 1 ∷ []))
       ↔ MeetsAll m.target_part.rows (y ++ (k ++ (n ++ pos 1 ∷ [])))
-  source_floors : MeetsAll (placed_rows SourceFloors (widths_of m) (floors_of m.source_part.shape.outputs m.context.shape.parameters m.source_schedule)) (in_columns x y l k u v (n ++ pos 1 ∷ []))
-      ↔ MeetsAll (floors_of m.source_part.shape.outputs m.context.shape.parameters m.source_schedule) (x ++ (u ++ (n ++ pos 1 ∷ [])))
-  target_floors : MeetsAll (placed_rows TargetFloors (widths_of m) (floors_of m.target_part.shape.outputs m.context.shape.parameters m.target_schedule)) (in_columns x y l k u v (n ++ pos 1 ∷ []))
-      ↔ MeetsAll (floors_of m.target_part.shape.outputs m.context.shape.parameters m.target_schedule) (y ++ (v ++ (n ++ pos 1 ∷ [])))
+  source_floors : MeetsAll (placed_rows SourceFloors (widths_of m) (floor_part m.source_part.shape.outputs m.context.shape.parameters m.source_schedule.floors).rows) (in_columns x y l k u v (n ++ pos 1 ∷ []))
+      ↔ MeetsAll (floor_part m.source_part.shape.outputs m.context.shape.parameters m.source_schedule.floors).rows (x ++ (u ++ (n ++ pos 1 ∷ [])))
+  target_floors : MeetsAll (placed_rows TargetFloors (widths_of m) (floor_part m.target_part.shape.outputs m.context.shape.parameters m.target_schedule.floors).rows) (in_columns x y l k u v (n ++ pos 1 ∷ []))
+      ↔ MeetsAll (floor_part m.target_part.shape.outputs m.context.shape.parameters m.target_schedule.floors).rows (y ++ (v ++ (n ++ pos 1 ∷ [])))
   subscripts : MeetsAll (rows_between (subscript_row (widths_of m)) m.source_access.subscripts m.target_access.subscripts) (in_columns x y l k u v (n ++ pos 1 ∷ []))
       ↔ (levels_at m.source_access.subscripts x [] n ≡ levels_at m.target_access.subscripts y [] n)
 
@@ -57,9 +59,9 @@ placed_means m x y l k u v n fits at en =
     let whole = in_columns x y l k u v z in record {
       context = placed_meet Context w 0 whole z (λ row h. context_value w row x y l k u v z at) m.context.rows (λ i h. omega arith);
       source_part = placed_meet SourcePart w (w.source + w.source_part) whole (x ++ (l ++ z)) (λ row h. source_part_value w row x y l k u v z h at)
-          m.source_part.rows (part_reach _ _ m.source_part fits.source_part);
+          m.source_part.rows (part_reach m.source_part fits.source_formed);
       target_part = placed_meet TargetPart w (w.target + w.target_part) whole (y ++ (k ++ z)) (λ row h. target_part_value w row x y l k u v z h at)
-          m.target_part.rows (part_reach _ _ m.target_part fits.target_part);
+          m.target_part.rows (part_reach m.target_part fits.target_formed);
       source_floors = placed_meet SourceFloors w (w.source + w.source_floors) whole (x ++ (u ++ z)) (λ row h. source_floors_value w row x y l k u v z h at)
           _ (schedule_reach w.source m.context.shape.parameters m.source_schedule fits.source_schedule);
       target_floors = placed_meet TargetFloors w (w.target + w.target_floors) whole (y ++ (v ++ z)) (λ row h. target_floors_value w row x y l k u v z h at)
@@ -92,10 +94,10 @@ base_meets m x y l k u v n fits at en = (forwards, backwards)
     three = placed_rows TargetPart w m.target_part.rows
 
     four : List PartRow
-    four = placed_rows SourceFloors w (floors_of w.source m.context.shape.parameters m.source_schedule)
+    four = placed_rows SourceFloors w (floor_part w.source m.context.shape.parameters m.source_schedule.floors).rows
 
     five : List PartRow
-    five = placed_rows TargetFloors w (floors_of w.target m.context.shape.parameters m.target_schedule)
+    five = placed_rows TargetFloors w (floor_part w.target m.context.shape.parameters m.target_schedule.floors).rows
 
     six : List PartRow
     six = rows_between (subscript_row w) m.source_access.subscripts m.target_access.subscripts
@@ -123,36 +125,15 @@ base_meets m x y l k u v n fits at en = (forwards, backwards)
         (meets_append five six whole (said.target_floors.1 h.target_floors) (said.subscripts.1 h.subscripts)))))
 
 -- loops in common are levels of both
-common_left : (p q : List ℤ) → 1 ≤ length p → common_loops p q + 1 ≤ length p
-common_left [] q h = absurd (omega arith)
-common_left (b ∷ []) q h = omega arith
-common_left (b ∷ (b' ∷ p)) [] h = omega arith
-common_left (b ∷ (b' ∷ p)) (c ∷ []) h = omega arith
-common_left (b ∷ (b' ∷ p)) (c ∷ (c' ∷ q)) h = by (int_eq b c) (common_left (b' ∷ p) (c' ∷ q) (omega arith))
-  where
-    by : (t : Bool) → common_loops (b' ∷ p) (c' ∷ q) + 1 ≤ length (b' ∷ p) → (if t then suc (common_loops (b' ∷ p) (c' ∷ q)) else 0) + 1 ≤ length (b ∷ (b' ∷ p))
-    by true rest = omega arith
-    by false rest = omega arith
-
-common_right : (p q : List ℤ) → 1 ≤ length q → common_loops p q + 1 ≤ length q
-common_right [] q h = omega arith
-common_right (b ∷ []) q h = omega arith
-common_right (b ∷ (b' ∷ p)) [] h = absurd (omega arith)
-common_right (b ∷ (b' ∷ p)) (c ∷ []) h = omega arith
-common_right (b ∷ (b' ∷ p)) (c ∷ (c' ∷ q)) h = by (int_eq b c) (common_right (b' ∷ p) (c' ∷ q) (omega arith))
-  where
-    by : (t : Bool) → common_loops (b' ∷ p) (c' ∷ q) + 1 ≤ length (c' ∷ q) → (if t then suc (common_loops (b' ∷ p) (c' ∷ q)) else 0) + 1 ≤ length (c ∷ (c' ∷ q))
-    by true rest = omega arith
-    by false rest = omega arith
-
 pub common_levels : (m : Pairing) → PairingFits m → (common_loops m.source_schedule.betas m.target_schedule.betas ≤ length m.source_schedule.levels)
     × (common_loops m.source_schedule.betas m.target_schedule.betas ≤ length m.target_schedule.levels)
 common_levels m fits =
-    let p = m.source_schedule.betas in
-    let q = m.target_schedule.betas in
-    let source = fits.source_schedule.relation.betas in
-    let target = fits.target_schedule.relation.betas in
-    (omega (arith, common_left p q (omega (arith, source))), omega (arith, common_right p q (omega (arith, target))))
+    let s = m.source_schedule in
+    let t = m.target_schedule in
+    let source : length s.betas ≡ length (levels_at s.levels [] [] []) + 1 = fits.source_schedule.relation.betas ∙ ap (λ k. k + 1) (sym (length-map s.levels (λ level. affine_at level [] [] []))) in
+    let target : length t.betas ≡ length (levels_at t.levels [] [] []) + 1 = fits.target_schedule.relation.betas ∙ ap (λ k. k + 1) (sym (length-map t.levels (λ level. affine_at level [] [] []))) in
+    let both = loops_are_common s.betas t.betas (levels_at s.levels [] [] []) (levels_at t.levels [] [] []) source target in
+    (omega (arith, both.0, length-map s.levels (λ level. affine_at level [] [] [])), omega (arith, both.1, length-map t.levels (λ level. affine_at level [] [] [])))
 
 -- the rows of a level hold where the level orders the two
 pub level_meets : (m : Pairing) (level : ℕ) (x y l k u v n : List ℤ) → PairingFits m → HasWidths (widths_of m) x y l k u v → length n ≡ m.context.shape.parameters
@@ -170,8 +151,8 @@ level_meets m (suc j) x y l k u v n fits at en is_level =
     let whole = in_columns x y l k u v (n ++ pos 1 ∷ []) in
     let common = common_levels m fits in
     let means = less_rows_meet w j m.source_schedule.levels m.target_schedule.levels x y l k u v n at (omega (arith, is_level, common.0)) (omega (arith, is_level, common.1))
-        (subst (λ c. All (HasSizes w.source w.source_floors c) m.source_schedule.levels) (sym en) fits.source_schedule.relation.levels)
-        (subst (λ c. All (HasSizes w.target w.target_floors c) m.target_schedule.levels) (sym en) fits.target_schedule.relation.levels) in (
+    (subst (λ c. All (HasSizes w.source w.source_floors c) m.source_schedule.levels) (sym en) fits.source_schedule.relation.levels)
+    (subst (λ c. All (HasSizes w.target w.target_floors c) m.target_schedule.levels) (sym en) fits.target_schedule.relation.levels) in (
       λ h. means.0 (meets_front (equal_rows m j) (less_rows m j) whole h, meets_back (equal_rows m j) (less_rows m j) whole h),
       λ h. let r = means.1 h in meets_append (equal_rows m j) (less_rows m j) whole r.0 r.1,
     )

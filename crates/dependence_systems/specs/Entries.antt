@@ -8,7 +8,7 @@ use Rattle.scop_core.specs.declared.accesses.Access.{Access}
 use Rattle.dependence_systems.specs.declared.deps.Dep.{Dep}
 use Rattle.dependence_systems.specs.declared.deps.DepKind.{DepKind}
 use Rattle.dependence_systems.specs.declared.deps.DepKind.TheVariants.{Raw, War, Waw}
-use Rattle.dependence_systems.specs.LevelOrder.{levels_between}
+use Rattle.scop_core.specs.LevelOrder.{levels_between}
 use Rattle.dependence_systems.specs.Sides.{Side}
 
 -- the members of a list with their numbers, the first one with number k

@@ -9,12 +9,12 @@ use Rattle.scop_core.specs.declared.affines.Affine.{Affine}
 use Rattle.scop_core.specs.declared.accesses.Access.{Access}
 use Rattle.scop_core.specs.declared.accesses.AccessKind.TheVariants.{Read}
 use Rattle.scop_core.specs.declared.schedules.Schedule.{Schedule}
-use Rattle.scop_core.specs.SolvedRows.{zeros, floor_rows}
+use Rattle.scop_core.specs.SolvedRows.{zeros, floor_part}
 use Rattle.dependence_systems.specs.declared.deps.Dep.{Dep}
 use Rattle.dependence_systems.specs.declared.widths.Widths.{Widths}
 use Rattle.dependence_systems.specs.declared.widths.Topic.{Topic}
 use Rattle.dependence_systems.specs.declared.widths.Topic.TheVariants.{Context, SourcePart, TargetPart, SourceFloors, TargetFloors}
-use Rattle.dependence_systems.specs.LevelOrder.{common_loops}
+use Rattle.scop_core.specs.LevelOrder.{common_loops}
 use Rattle.dependence_systems.specs.Sides.{Side, no_schedule, member}
 
 -- what a system is made of: the context, and of source and target a domain part, an access and a schedule
@@ -97,14 +97,6 @@ system_shape m = record {
   parameters = m.context.shape.parameters;
 }
 
--- the columns of a schedule's floors as rows of their own: iterators, floors, parameters
-abbrev pub floor_shape : ℕ → ℕ → Schedule → Shape
-floor_shape iterators parameters schedule = record { outputs = 0; inputs = iterators; locals = length schedule.floors; parameters = parameters }
-
--- the rows of a schedule's floors
-abbrev pub floors_of : ℕ → ℕ → Schedule → List PartRow
-floors_of iterators parameters schedule = floor_rows (floor_shape iterators parameters schedule) 0 schedule.floors
-
 -- the rows that the systems of all levels share: context, domain parts, floors, subscripts
 abbrev pub base_rows : Pairing → List PartRow
 base_rows m =
@@ -113,8 +105,8 @@ base_rows m =
     placed_rows Context w m.context.rows
     ++ (placed_rows SourcePart w m.source_part.rows
     ++ (placed_rows TargetPart w m.target_part.rows
-    ++ (placed_rows SourceFloors w (floors_of w.source parameters m.source_schedule)
-    ++ (placed_rows TargetFloors w (floors_of w.target parameters m.target_schedule)
+    ++ (placed_rows SourceFloors w (floor_part w.source parameters m.source_schedule.floors).rows
+    ++ (placed_rows TargetFloors w (floor_part w.target parameters m.target_schedule.floors).rows
     ++ rows_between (subscript_row w) m.source_access.subscripts m.target_access.subscripts))))
 
 -- the rows that say that the first k levels are equal
