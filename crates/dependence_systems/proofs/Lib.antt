@@ -2,6 +2,7 @@ mod Checks
 pub mod Differences
 pub mod EntryFound
 pub mod Members
+pub mod Pairs
 pub mod RowMeanings
 pub mod Segments
 pub mod SystemMeanings

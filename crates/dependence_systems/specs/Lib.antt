@@ -1,4 +1,5 @@
 pub mod Entries
 pub mod Fits
+pub mod Pairs
 pub mod Sides
 pub mod Systems
