@@ -230,3 +230,97 @@ ordered context sides is_context all n a b h =
       );
       order = (schedules_order_at_a_level i.source.schedule i.target.schedule s.schedule.relation.betas t.schedule.relation.betas a.values b.values n).1 (e.level, i.level, holds.order);
     }
+
+-- the entry of an ordered pair
+record Found (context : System) (sides : List Side) (n : List ℤ) (a b : Instance) : Type 0 where
+  entry : Dep
+  is_entry : IsEntry sides entry
+  source_is : a.statement ≡ entry.source
+  target_is : b.statement ≡ entry.target
+  holds : PairHolds (named context sides entry is_entry) entry.level a.values b.values n
+
+found : (context : System) (sides : List Side) → IsContext context → All (SideFits context.shape.parameters) sides
+    → (n : List ℤ) → LiesIn context [] [] n → (a b : Instance) → IsOrdered sides n a b → Found context sides n a b
+found context sides is_context all n in_context a b h =
+    let N = context.shape.parameters in
+    let x = a.values in
+    let y = b.values in
+    let s : SideFits N h.source = all_member (SideFits N) sides a.statement h.source h.source_is all in
+    let t : SideFits N h.target = all_member (SideFits N) sides b.statement h.target h.target_is all in
+    let p = part_of h.source.domain x n h.source_lies in
+    let q = part_of h.target.domain y n h.target_lies in
+    let u = from_map (λ access. use_at x n access) h.source.accesses h.touch.0 h.touch.2 in
+    let v = from_map (λ access. use_at y n access) h.target.accesses h.touch.1 h.touch.3 in
+    let first = number_in h.source.accesses u.origin u.listed in
+    let second = number_in h.target.accesses v.origin v.listed in
+    let cells : (use_at x n u.origin).cell ≡ (use_at y n v.origin).cell = ap (λ z. z.cell) u.made ∙ (h.touch.4 ∙ sym (ap (λ z. z.cell) v.made)) in
+    let subscripts : levels_at u.origin.subscripts x [] n ≡ levels_at v.origin.subscripts y [] n = ap (λ c. c.subscripts) cells in
+    let long : length u.origin.subscripts ≡ length v.origin.subscripts
+    = sym (length-map u.origin.subscripts (λ f. affine_at f x [] n)) ∙ (ap length subscripts ∙ length-map v.origin.subscripts (λ f. affine_at f y [] n)) in
+    let writes : (is_writing u.origin.kind ≡ true) ⊎ (is_writing v.origin.kind ≡ true)
+    = subst (λ k. (is_writing k ≡ true) ⊎ (is_writing v.origin.kind ≡ true)) (sym (ap (λ z. z.kind) u.made))
+        (subst (λ k. (is_writing h.touch.0.kind ≡ true) ⊎ (is_writing k ≡ true)) (sym (ap (λ z. z.kind) v.made)) h.touch.5) in
+    let kind = writes_kind u.origin.kind v.origin.kind writes in
+    let level = (schedules_order_at_a_level h.source.schedule h.target.schedule s.schedule.relation.betas t.schedule.relation.betas x y n).0 h.order in
+    let e : Dep = record {
+      kind = kind.0;
+      source = a.statement;
+      target = b.statement;
+      source_access = first.0;
+      target_access = second.0;
+      source_part = suc p.place;
+      target_part = suc q.place;
+      level = level.0;
+    } in
+    let is_entry : IsEntry sides e = record {
+      source = h.source;
+      target = h.target;
+      first = u.origin;
+      second = v.origin;
+      source_domain = p.part;
+      target_domain = q.part;
+      source_is = h.source_is;
+      target_is = h.target_is;
+      first_is = first.1;
+      second_is = second.1;
+      source_domain_is = p.part_is;
+      target_domain_is = q.part_is;
+      kind_is = kind.1;
+      meet = can_meet_of u.origin v.origin (ap (λ c. c.array) cells) long;
+      level = level.1;
+    } in record {
+      entry = e;
+      is_entry = is_entry;
+      source_is = refl;
+      target_is = refl;
+      holds = record {
+        context = in_context;
+        source = p.lies;
+        target = q.lies;
+        subscripts = subscripts;
+        order = level.2;
+      };
+    }
+
+listed : (context : System) (sides : List Side) → IsContext context → All (SideFits context.shape.parameters) sides
+    → (n : List ℤ) (a b : Instance) → Found context sides n a b → LiesInList context sides n a b
+listed context sides is_context all n a b f =
+    let e = f.entry in
+    let i = f.is_entry in
+    let m = named context sides e i in
+    let lies : LiesIn (level_system m e.level) a.values b.values n
+    = backwards m e.level a.values b.values n (named_fits context sides e i is_context all) i.level f.holds in record {
+      entry = e;
+      listed = entry_listed sides e i;
+      pair = record {
+        source_is = f.source_is;
+        target_is = f.target_is;
+        lies = subst (λ p. LiesIn (level_system p e.level) a.values b.values n) (sym (is_named context sides e i)) lies;
+      };
+    }
+
+pub systems_hold_ordered_pairs : SystemsHoldOrderedPairs
+systems_hold_ordered_pairs context sides is_context all n in_context a b = (
+  ordered context sides is_context all n a b,
+  λ h. listed context sides is_context all n a b (found context sides is_context all n in_context a b h),
+)
