@@ -4,6 +4,7 @@ pub mod EntryFound
 pub mod Members
 pub mod Pairs
 pub mod RowMeanings
+pub mod ScopPairs
 pub mod Segments
 pub mod SystemMeanings
 pub mod SystemRows

@@ -259,7 +259,7 @@ found context sides is_context all n in_context a b h =
     = sym (length-map u.origin.subscripts (λ f. affine_at f x [] n)) ∙ (ap length subscripts ∙ length-map v.origin.subscripts (λ f. affine_at f y [] n)) in
     let writes : (is_writing u.origin.kind ≡ true) ⊎ (is_writing v.origin.kind ≡ true)
     = subst (λ k. (is_writing k ≡ true) ⊎ (is_writing v.origin.kind ≡ true)) (sym (ap (λ z. z.kind) u.made))
-        (subst (λ k. (is_writing h.touch.0.kind ≡ true) ⊎ (is_writing k ≡ true)) (sym (ap (λ z. z.kind) v.made)) h.touch.5) in
+    (subst (λ k. (is_writing h.touch.0.kind ≡ true) ⊎ (is_writing k ≡ true)) (sym (ap (λ z. z.kind) v.made)) h.touch.5) in
     let kind = writes_kind u.origin.kind v.origin.kind writes in
     let level = (schedules_order_at_a_level h.source.schedule h.target.schedule s.schedule.relation.betas t.schedule.relation.betas x y n).0 h.order in
     let e : Dep = record {

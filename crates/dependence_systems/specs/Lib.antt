@@ -1,5 +1,6 @@
 pub mod Entries
 pub mod Fits
+pub mod Originals
 pub mod Pairs
 pub mod Sides
 pub mod Systems

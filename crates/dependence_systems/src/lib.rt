@@ -3,6 +3,7 @@
 #![tactic(auto)]
 
 mod deps;
+pub mod laws;
 mod widths;
 
 pub use deps::{Dep, DepKind};
