@@ -20,6 +20,7 @@ pub mod SolvedDots
 pub mod SolvedRowMeanings
 pub mod SolvedMeanings
 pub mod Assemblies
+pub mod AssemblableData
 pub mod HeldPieces
 pub mod Validities
 pub mod Arrays

@@ -36,26 +36,26 @@ pub or_none : {X : Type 0} (a b : Option X) → or_else a b ≡ None → (a ≡ 
 or_none None b h = (refl, h)
 or_none (Some x) b h = absurd (cc)
 
-none_or : {X : Type 0} (a b : Option X) → a ≡ None → b ≡ None → or_else a b ≡ None
+pub none_or : {X : Type 0} (a b : Option X) → a ≡ None → b ≡ None → or_else a b ≡ None
 none_or a b e f = ap (λ t. or_else t b) e ∙ f
 
-if_none : {X : Type 0} (t : Bool) (x : X) (rest : Option X) → (if t then Some x else rest) ≡ None → (t ≡ false) × (rest ≡ None)
+pub if_none : {X : Type 0} (t : Bool) (x : X) (rest : Option X) → (if t then Some x else rest) ≡ None → (t ≡ false) × (rest ≡ None)
 if_none true x rest h = absurd (cc)
 if_none false x rest h = (refl, h)
 
-none_if : {X : Type 0} (t : Bool) (x : X) (rest : Option X) → t ≡ false → rest ≡ None → (if t then Some x else rest) ≡ None
+pub none_if : {X : Type 0} (t : Bool) (x : X) (rest : Option X) → t ≡ false → rest ≡ None → (if t then Some x else rest) ≡ None
 none_if true x rest e f = absurd (cc)
 none_if false x rest e f = f
 
-neither : (a b : Bool) → (a || b) ≡ false → (a ≡ false) × (b ≡ false)
+pub neither : (a b : Bool) → (a || b) ≡ false → (a ≡ false) × (b ≡ false)
 neither true b h = absurd (cc)
 neither false b h = (refl, h)
 
-or_false : (a b : Bool) → a ≡ false → b ≡ false → (a || b) ≡ false
+pub or_false : (a b : Bool) → a ≡ false → b ≡ false → (a || b) ≡ false
 or_false true b e f = absurd (cc)
 or_false false b e f = f
 
-at_most : (a b : ℕ) → nat_lt a b ≡ false → b ≤ a
+pub at_most : (a b : ℕ) → nat_lt a b ≡ false → b ≤ a
 at_most a b h = by (apart a b)
   where
     by : (a < b) ⊎ ((a ≡ b) ⊎ (b < a)) → b ≤ a
@@ -63,7 +63,7 @@ at_most a b h = by (apart a b)
     by (inr (inl e)) = omega arith
     by (inr (inr l)) = omega arith
 
-not_above : (a b : ℕ) → b ≤ a → nat_lt a b ≡ false
+pub not_above : (a b : ℕ) → b ≤ a → nat_lt a b ≡ false
 not_above a b h = false_if (nat_lt a b) (λ e. let l : a < b = (Decides-ltb a b).0 e in omega arith)
 
 one_part : (test : System → Bool) (parts : List System) → is_one test parts ≡ true → (parts ≡ the_part parts ∷ []) × (test (the_part parts) ≡ true)
@@ -90,13 +90,13 @@ values_length : (shape : Shape) (k : ℕ) (values : List Affine) → length (val
 values_length shape k [] = refl
 values_length shape k (value ∷ values) = ap suc (values_length shape (k + 1) values)
 
-schedule_length : (i p : ℕ) (s : Schedule) → length s.betas ≡ length s.levels + 1 → length (schedule_part i p s).rows ≡ (2 * length s.levels + 1) + 2 * length s.floors
+pub schedule_length : (i p : ℕ) (s : Schedule) → length s.betas ≡ length s.levels + 1 → length (schedule_part i p s).rows ≡ (2 * length s.levels + 1) + 2 * length s.floors
 schedule_length i p s e =
     length-append (dimension_rows (schedule_shape i p s) 0 s.betas s.levels) (floor_rows (schedule_shape i p s) 0 s.floors)
     ∙ omega (arith, dimensions_length (schedule_shape i p s) 0 s.betas s.levels e, floors_length (schedule_shape i p s) 0 s.floors)
 
 -- accesses with at most 12 subscripts
-abbrev Small : List Access → Type 0
+abbrev pub Small : List Access → Type 0
 Small [] = Unit {0}
 Small (access ∷ accesses) = (length access.subscripts ≤ 12) × Small accesses
 
@@ -114,24 +114,24 @@ small_accesses [] h g = tt
 small_accesses (raw ∷ raws) h g =
     let p = both _ _ h in let q = neither _ _ g in (small_access raw.0 raw.1 p.0 q.0, small_accesses raws p.1 q.1)
 
-pieces_outputs : (i p : ℕ) (accesses : List Access) → Small accesses → accesses_above OutputCount 13 (map (access_piece i p) accesses) ≡ false
+pub pieces_outputs : (i p : ℕ) (accesses : List Access) → Small accesses → accesses_above OutputCount 13 (map (access_piece i p) accesses) ≡ false
 pieces_outputs i p [] h = refl
 pieces_outputs i p (access ∷ accesses) h =
     let few : length access.subscripts ≤ 12 = h.0 in
     or_false _ _ (or_false _ _ (not_above 13 (length access.subscripts + 1) (omega arith)) refl) (pieces_outputs i p accesses h.1)
 
-pieces_locals : (i p : ℕ) (accesses : List Access) → accesses_above LocalCount 24 (map (access_piece i p) accesses) ≡ false
+pub pieces_locals : (i p : ℕ) (accesses : List Access) → accesses_above LocalCount 24 (map (access_piece i p) accesses) ≡ false
 pieces_locals i p [] = refl
 pieces_locals i p (access ∷ accesses) = or_false _ _ (or_false _ _ (not_above 24 0 (omega arith)) refl) (pieces_locals i p accesses)
 
-pieces_rows : (i p : ℕ) (accesses : List Access) → Small accesses → accesses_above RowCount 256 (map (access_piece i p) accesses) ≡ false
+pub pieces_rows : (i p : ℕ) (accesses : List Access) → Small accesses → accesses_above RowCount 256 (map (access_piece i p) accesses) ≡ false
 pieces_rows i p [] h = refl
 pieces_rows i p (access ∷ accesses) h =
     let few : length access.subscripts ≤ 12 = h.0 in
     or_false _ _ (or_false _ _ (not_above 256 (length (access_part i p access).rows) (omega (arith, values_length (access_shape i p access) 1 access.subscripts))) refl)
     (pieces_rows i p accesses h.1)
 
-pieces_parts : (i p : ℕ) (accesses : List Access) → accesses_many (map (access_piece i p) accesses) ≡ false
+pub pieces_parts : (i p : ℕ) (accesses : List Access) → accesses_many (map (access_piece i p) accesses) ≡ false
 pieces_parts i p [] = refl
 pieces_parts i p (access ∷ accesses) = or_false _ _ (not_above 64 1 (omega arith)) (pieces_parts i p accesses)
 
@@ -145,13 +145,13 @@ accesses_solved i p (raw ∷ raws) h all =
     (access_of_relation i p raw.0 (the_part raw.1) (one_part is_access raw.1 q.0).1 (All-head (HasAccessRelation i p) (access_of raw.0 (the_part raw.1)) (solved_accesses raws) all))
     (accesses_solved i p raws q.1 (All-tail (HasAccessRelation i p) (access_of raw.0 (the_part raw.1)) (solved_accesses raws) all))
 
-pieces_solved : (i p : ℕ) (accesses : List Access) → All (IsSolvedAccess i p) accesses → are_solved (map (access_piece i p) accesses) ≡ true
+pub pieces_solved : (i p : ℕ) (accesses : List Access) → All (IsSolvedAccess i p) accesses → are_solved (map (access_piece i p) accesses) ≡ true
 pieces_solved i p [] h = refl
 pieces_solved i p (access ∷ accesses) h =
     and_true _ _ (access_reads_back i p access (All-head (IsSolvedAccess i p) access accesses h)).0
     (pieces_solved i p accesses (All-tail (IsSolvedAccess i p) access accesses h))
 
-pieces_same : (i p : ℕ) (accesses : List Access) → All (IsSolvedAccess i p) accesses → solved_accesses (map (access_piece i p) accesses) ≡ accesses
+pub pieces_same : (i p : ℕ) (accesses : List Access) → All (IsSolvedAccess i p) accesses → solved_accesses (map (access_piece i p) accesses) ≡ accesses
 pieces_same i p [] h = refl
 pieces_same i p (access ∷ accesses) h =
     ap (λ a. a ∷ solved_accesses (map (access_piece i p) accesses)) (access_reads_back i p access (All-head (IsSolvedAccess i p) access accesses h)).1
@@ -162,14 +162,14 @@ solved_count [] = refl
 solved_count (raw ∷ raws) = ap suc (solved_count raws)
 
 -- no limit of a statement is passed
-record Kept (raw : RawStatement) : Type 0 where
-  iterators : some_above OutputCount 12 raw.domain ≡ false
-  levels : some_above OutputCount 49 raw.scattering ≡ false
-  locals : statement_above LocalCount 24 raw ≡ false
-  rows : statement_above RowCount 256 raw ≡ false
-  parts : has_many_parts raw ≡ false
-  accesses : nat_lt 256 (length raw.accesses) ≡ false
-  subscripts : accesses_above OutputCount 13 raw.accesses ≡ false
+pub record Kept (raw : RawStatement) : Type 0 where
+  pub iterators : some_above OutputCount 12 raw.domain ≡ false
+  pub levels : some_above OutputCount 49 raw.scattering ≡ false
+  pub locals : statement_above LocalCount 24 raw ≡ false
+  pub rows : statement_above RowCount 256 raw ≡ false
+  pub parts : has_many_parts raw ≡ false
+  pub accesses : nat_lt 256 (length raw.accesses) ≡ false
+  pub subscripts : accesses_above OutputCount 13 raw.accesses ≡ false
 
 kept : (k : ℕ) (raw : RawStatement) → statement_limit k raw ≡ None → Kept raw
 kept k raw h =
@@ -182,7 +182,7 @@ kept k raw h =
     let g = if_none _ _ _ f.1 in
     record { iterators = a.0; levels = b.0; locals = c.0; rows = d.0; parts = e.0; accesses = f.0; subscripts = g.0 }
 
-none_passed : (k : ℕ) (raw : RawStatement) → Kept raw → statement_limit k raw ≡ None
+pub none_passed : (k : ℕ) (raw : RawStatement) → Kept raw → statement_limit k raw ≡ None
 none_passed k raw keeps =
     none_if _ _ _ keeps.iterators (none_if _ _ _ keeps.levels (none_if _ _ _ keeps.locals (none_if _ _ _ keeps.rows
     (none_if _ _ _ keeps.parts (none_if _ _ _ keeps.accesses (none_if _ _ _ keeps.subscripts refl))))))
@@ -192,7 +192,7 @@ pub body_count : (k n : ℕ) (body : Option Body) → IfSome body (λ b. length 
 body_count k n (Some body) h = h
 body_count k n None h = default_count 1 n
 
-body_is : (k n : ℕ) (body : Option Body) → k ≤ 65536 → n ≤ 65536 → IfSome body (λ b. is_body b ≡ true) → is_body (body_from k n body) ≡ true
+pub body_is : (k n : ℕ) (body : Option Body) → k ≤ 65536 → n ≤ 65536 → IfSome body (λ b. is_body b ≡ true) → is_body (body_from k n body) ≡ true
 body_is k n (Some body) h g is = is
 body_is k n None h g is = default_is_body k n (omega arith) (omega arith)
 
@@ -310,7 +310,7 @@ pub unless_some : {X : Type 0} (t : Bool) (x : X) (rest : Option X) → (if t th
 unless_some true x rest h = (refl, h)
 unless_some false x rest h = absurd (cc)
 
-none_unless : {X : Type 0} (t : Bool) (x : X) (rest : Option X) → t ≡ true → rest ≡ None → (if t then rest else Some x) ≡ None
+pub none_unless : {X : Type 0} (t : Bool) (x : X) (rest : Option X) → t ≡ true → rest ≡ None → (if t then rest else Some x) ≡ None
 none_unless true x rest e f = f
 none_unless false x rest e f = absurd (cc)
 

@@ -1,4 +1,5 @@
 pub mod AffineSums
+pub mod Assemblable
 pub mod Assembly
 pub mod Held
 pub mod KeptLimits

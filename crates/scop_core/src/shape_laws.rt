@@ -1,6 +1,7 @@
 //! The laws of the shapes of SCoPs and of the rows of their floors: functions that do nothing, and whose
 //! contracts are the laws.
 
+ghost use Rattle.scop_core.specs.Assemblable.{AssemblableDataReadsBack, ValidScopsAreAssemblable};
 ghost use Rattle.scop_core.specs.Shapes.{ValidScopsAreFormed, ValidScopsAreShaped};
 ghost use Rattle.scop_core.specs.SolvedLaws.{FloorRowsMeanFloors};
 
@@ -20,4 +21,16 @@ pub fn valid_scops_are_shaped()
 /// coefficients are in range.
 pub fn valid_scops_are_formed()
     ensures { ValidScopsAreFormed }
+{}
+
+/// Data with the shapes of a SCoP, within the limits, with texts that can be printed and beta vectors
+/// apart, is what the pieces that it is printed as give, without a refusal.
+pub fn assemblable_data_reads_back()
+    ensures { AssemblableDataReadsBack }
+{}
+
+/// Every valid SCoP is such data: with the law above, the data that pieces can give is known by its shapes,
+/// limits, texts and vectors alone.
+pub fn valid_scops_are_assemblable()
+    ensures { ValidScopsAreAssemblable }
 {}
