@@ -1,13 +1,21 @@
 -- Definitions on concrete data.
-use Rattle.std.proofs.Common.{◌≡◌, ◌⊎◌, refl, subst, Some, None, inl, inr, ℕ, zero, suc, List, [], ◌∷◌, length, ap, arith, ℤ, pos, negsuc}
-use Rattle.std.specs.Prelude.{codes}
+use Rattle.std.proofs.Common.{◌≡◌, ◌⊎◌, refl, sym, subst, Some, None, inl, inr, ℕ, zero, suc, ◌+◌, ◌<◌, ◌≤◌, List, [], ◌∷◌, length, get_or, ap, arith, ℤ, pos, negsuc, neg_ℤ, ◌≤ℤ◌}
+use Rattle.std.specs.Prelude.{codes, All}
 use Rattle.std.proofs.lemmas.Int.{ints, by_lt_z}
+use Rattle.std.proofs.lemmas.List.Elements.{All-nil, All-cons}
+use Rattle.row_core.specs.Rows.{entry}
 use Rattle.relation_core.specs.Systems.{System}
 use Rattle.relation_core.specs.Points.{MeetsAll, coordinates}
 use Rattle.relation_core.specs.declared.part_rows.RowKind.TheVariants.{AtLeast}
 use Rattle.scop_core.specs.declared.affines.Affine.{Affine}
 use Rattle.scop_core.specs.declared.accesses.AccessKind.TheVariants.{Read, Write, MayWrite}
+use Rattle.scop_core.specs.declared.accesses.Access.{Access}
+use Rattle.scop_core.specs.declared.schedules.Floor.{Floor}
 use Rattle.scop_core.specs.declared.statements.Statement.{Statement}
+use Rattle.scop_core.specs.SolvedRows.{HasSizes, PairFits}
+use Rattle.scop_core.specs.Printable.{IsDomainPart}
+use Rattle.scop_core.specs.ReadBack.{UsesEarlier, IsSolvedSchedule, IsSolvedAccess}
+use Rattle.scop_core.specs.Shapes.{IsShapedStatement, IsShapedScop}
 use Rattle.scop_core.specs.ScopData.{ScopData}
 use Rattle.scop_core.specs.Sequences.{In}
 use Rattle.scop_core.specs.Memory.{Cell, Term, Initial, App, NoTerms, More, initial, Use, Event, step_of}
@@ -155,3 +163,63 @@ each_store_has_its_number = refl
 -- no access, no effect
 no_access : step_of (event_with []) initial (at (pos 1)) ≡ Initial (at (pos 1))
 no_access = refl
+
+-- the strips have the shapes of a SCoP
+one_item : {X : Type 0} (P : X → Type 0) (x : X) → P x → All P (x ∷ [])
+one_item P x h = All-cons P x [] h (All-nil P)
+
+two_items : {X : Type 0} (P : X → Type 0) (x y : X) → P x → P y → All P (x ∷ (y ∷ []))
+two_items P x y h g = All-cons P x (y ∷ []) h (one_item P y g)
+
+sizes_one : HasSizes 1 1 1 iterator_form
+sizes_one = record { iterators_are = refl; floors_are = refl; parameters_are = refl }
+
+floor_fits : (k : ℕ) (d : Floor) → k < 1 → PairFits k (get_or strip_statement.schedule.floors k d)
+floor_fits zero d h = record { local = omega (arith, ints); constant = omega (arith, ints) }
+floor_fits (suc k) d h = absurd (omega arith)
+
+floor_is_first : (k : ℕ) (d : Floor) → k < 1 → UsesEarlier k (get_or strip_statement.schedule.floors k d)
+floor_is_first zero d h zero g = refl
+floor_is_first zero d h (suc j) g = refl
+floor_is_first (suc k) d h j g = absurd (omega arith)
+
+strip_schedule : IsSolvedSchedule 1 1 strip_statement.schedule
+strip_schedule = record {
+  relation = record {
+    levels = two_items (HasSizes 1 1 1) floor_form iterator_form (record { iterators_are = refl; floors_are = refl; parameters_are = refl }) sizes_one;
+    floors = one_item (λ (floor : Floor). HasSizes 1 1 1 floor.value) (record { value = iterator_form; size = pos 4 }) sizes_one;
+    betas = refl;
+    limits = record { outputs = omega arith; inputs = omega arith; locals = omega arith; parameters = omega arith };
+    pairs = floor_fits;
+  };
+  sizes = one_item (λ (floor : Floor). pos 1 ≤ℤ floor.size) (record { value = iterator_form; size = pos 4 }) (omega (arith, ints));
+  earlier = floor_is_first;
+}
+
+strip_access : (access : Access) → access.array ≡ pos 1 → access.subscripts ≡ zero_form ∷ [] → IsSolvedAccess 1 1 access
+strip_access access a e =
+    let sizes : HasSizes 1 0 1 zero_form = record { iterators_are = refl; floors_are = refl; parameters_are = refl } in
+    let count : length access.subscripts ≡ 1 = ap length e in
+    record {
+      relation = record {
+        subscripts = subst (All (HasSizes 1 0 1)) (sym e) (one_item (HasSizes 1 0 1) zero_form sizes);
+        limits = record { outputs = omega (arith, count); inputs = omega arith; locals = omega arith; parameters = omega arith };
+      };
+      identifier = omega (arith, ints, a);
+    }
+
+strips_are_shaped : IsShapedScop strips
+strips_are_shaped = record {
+  context = record { outputs = refl; inputs = refl; locals = refl };
+  statements = one_item (IsShapedStatement 1) strip_statement (record {
+    some_part = refl;
+    domain = one_item (IsDomainPart 1 1) from_minus_five (record { outputs = refl; inputs = refl; parameters_are = refl });
+    schedule = strip_schedule;
+    accesses = two_items (IsSolvedAccess 1 1) _ _ (strip_access (record { kind = Read; array = pos 1; subscripts = zero_form ∷ [] }) refl refl)
+        (strip_access (record { kind = Write; array = pos 1; subscripts = zero_form ∷ [] }) refl refl);
+  });
+}
+
+-- a statement without a domain part has them not
+no_part : IsShapedStatement 1 (record strip_statement { domain = [] }) → ⊥
+no_part h = let e = h.some_part in absurd (cc)
