@@ -1,6 +1,7 @@
 -- Definitions of the order by levels on concrete data.
 use Rattle.std.proofs.Common.{◌≡◌, refl, [], ◌∷◌, List, ℤ, pos, arith}
 use Rattle.std.proofs.lemmas.Int.{ints}
+use Rattle.scop_core.specs.DenseBetas.{dense_vector}
 use Rattle.scop_core.specs.LevelOrder.{levels_between, OrdersAt}
 
 -- two statements of one loop nest: for i { for j { S } T }, and U behind it
@@ -34,3 +35,16 @@ inner_orders = (refl, omega (arith, ints))
 
 outer_does_not : ¬ OrdersAt 2 (pos 4 ∷ (pos 5 ∷ [])) (pos 4 ∷ (pos 7 ∷ [])) 1
 outer_does_not h = absurd (omega (arith, ints))
+
+-- dense vectors of three statements
+abbrev sparse : List (List ℤ)
+sparse = (pos 1 ∷ (pos 5 ∷ [])) ∷ ((pos 1 ∷ (pos 9 ∷ (pos 2 ∷ []))) ∷ ((pos 4 ∷ []) ∷ []))
+
+first_is_dense : dense_vector sparse (pos 1 ∷ (pos 5 ∷ [])) ≡ pos 0 ∷ (pos 0 ∷ [])
+first_is_dense = refl
+
+second_is_dense : dense_vector sparse (pos 1 ∷ (pos 9 ∷ (pos 2 ∷ []))) ≡ pos 0 ∷ (pos 1 ∷ (pos 0 ∷ []))
+second_is_dense = refl
+
+third_is_dense : dense_vector sparse (pos 4 ∷ []) ≡ pos 1 ∷ []
+third_is_dense = refl

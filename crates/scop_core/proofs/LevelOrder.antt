@@ -11,6 +11,7 @@ use Rattle.scop_core.specs.Order.{Before}
 use Rattle.scop_core.specs.Sequences.{In}
 use Rattle.scop_core.specs.Meaning.{interleaved}
 use Rattle.scop_core.proofs.Memories.{in_either}
+use Rattle.scop_core.proofs.IntTests.{lt_of, eq_no}
 use Rattle.scop_core.proofs.Members.{in_range, range_has, in_front, in_behind}
 use Rattle.scop_core.specs.LevelOrder.{common_loops, is_textually_before, EqualUpTo, LessAfter, IsLevel, levels_between, OrdersAt, level_values}
 use Rattle.scop_core.specs.RunLaws.{BeforeByLevels, BeforeIsAtALevel, OneVectorHasAllLoops, LoopsAreCommon, LevelsAreListed, LevelsByEntries, SchedulesOrderAtALevel}
@@ -19,29 +20,15 @@ use Rattle.scop_core.specs.RunLaws.{BeforeByLevels, BeforeIsAtALevel, OneVectorH
 abbrev pub Ordered : ℕ → Bool → List ℤ → List ℤ → Type 0
 Ordered common textual v w = ((n : ℕ) × (n < common) × LessAfter n v w) ⊎ ((textual ≡ true) × EqualUpTo common v w)
 
-eq_no : (x y : ℤ) → x <ℤ y → int_eq x y ≡ false
-eq_no x y l = by (int_eq x y) refl
-  where
-    by : (t : Bool) → int_eq x y ≡ t → int_eq x y ≡ false
-    by true e = let same : x ≡ y = (Decides-int_eq x y).0 e in absurd (omega (arith, ints))
-    by false e = e
-
 lt_is : (x y : ℤ) → int_lt x y ≡ true → x <ℤ y
 lt_is x y h = omega (arith, ints)
-
-lt_of : (x y : ℤ) → x <ℤ y → int_lt x y ≡ true
-lt_of x y h = by (int_lt x y) refl
-  where
-    by : (t : Bool) → int_lt x y ≡ t → int_lt x y ≡ true
-    by true e = e
-    by false e = absurd (omega (arith, ints))
 
 -- the first betas differ, or where they are the same the loops end: only the text's order is left
 ends : (b c : ℤ) (v w : List ℤ) → ((b <ℤ c) ⊎ ((b ≡ c) × ⊥)) ↔ Ordered 0 (if int_eq b c then false else int_lt b c) v w
 ends b c v w = (into, back (int_eq b c))
   where
     into : (b <ℤ c) ⊎ ((b ≡ c) × ⊥) → Ordered 0 (if int_eq b c then false else int_lt b c) v w
-    into (inl l) = inr (rw (eq_no b c l) (lt_of b c l), tt)
+    into (inl l) = inr (rw (eq_no b c (λ e. absurd (omega (arith, ints, l, e)))) (lt_of b c l), tt)
     into (inr h) = absurd h.1
 
     back : (t : Bool) → Ordered 0 (if t then false else int_lt b c) v w → (b <ℤ c) ⊎ ((b ≡ c) × ⊥)
@@ -68,7 +55,7 @@ goes_on b c x y common textual v w B rest = (into, back (int_eq b c) refl)
     same (inr h) = more h.0 (rest.0 h.1)
 
     into : (b <ℤ c) ⊎ ((b ≡ c) × ((x <ℤ y) ⊎ ((x ≡ y) × B))) → After (int_eq b c) b c common textual (x ∷ v) (y ∷ w)
-    into (inl l) = subst (λ t. After t b c common textual (x ∷ v) (y ∷ w)) (sym (eq_no b c l)) (inr (lt_of b c l, tt))
+    into (inl l) = subst (λ t. After t b c common textual (x ∷ v) (y ∷ w)) (sym (eq_no b c (λ e. absurd (omega (arith, ints, l, e))))) (inr (lt_of b c l, tt))
     into (inr h) = subst (λ t. After t b c common textual (x ∷ v) (y ∷ w)) (sym ((Decides-int_eq b c).1 h.0)) (same h.1)
 
     less : Ordered (suc common) textual (x ∷ v) (y ∷ w) → (x <ℤ y) ⊎ ((x ≡ y) × B)

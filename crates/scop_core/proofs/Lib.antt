@@ -9,10 +9,13 @@ pub mod Floors
 pub mod Stamps
 pub mod RunLaws
 pub mod Members
+pub mod IntTests
 pub mod LevelOrder
 pub mod Sorting
 pub mod MappedLists
 pub mod RunOrders
+pub mod DenseOrders
+pub mod DenseRuns
 pub mod SolvedForms
 pub mod SolvedShapes
 pub mod SolvedPieces

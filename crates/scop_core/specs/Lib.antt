@@ -1,6 +1,7 @@
 pub mod AffineSums
 pub mod Assemblable
 pub mod Assembly
+pub mod DenseBetas
 pub mod Held
 pub mod KeptLimits
 pub mod Layouts

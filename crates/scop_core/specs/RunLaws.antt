@@ -1,14 +1,16 @@
 -- The laws of runs on which dependences and edits rest, for every SCoP.
-use Rattle.std.specs.Prelude.{◌≡◌, ◌↔◌, ◌⊎◌, ℕ, ◌+◌, ◌<◌, ◌≤◌, List, length, ℤ, ◌<ℤ◌, true, false, map}
+use Rattle.std.specs.Prelude.{◌≡◌, ◌↔◌, ◌⊎◌, ℕ, ◌+◌, ◌<◌, ◌≤◌, List, length, ℤ, ◌<ℤ◌, true, false, map, pos}
 use Rattle.row_core.specs.Rows.{entry}
 use Rattle.scop_core.specs.declared.schedules.Schedule.{Schedule}
 use Rattle.scop_core.specs.Order.{Before}
 use Rattle.scop_core.specs.Sequences.{In, Precedes}
-use Rattle.scop_core.specs.Meaning.{interleaved, stamp_of, Instance, IsInstance, stamp, event, Touch, Run, memory_after}
+use Rattle.scop_core.specs.Meaning.{interleaved, stamp_of, Instance, IsInstance, stamp, event, Touch, Run, memory_after, Conflict}
 use Rattle.scop_core.specs.LevelOrder.{common_loops, is_textually_before, EqualUpTo, LessAfter, IsLevel, levels_between, OrdersAt, level_values}
-use Rattle.scop_core.specs.ScopData.{ScopData}
+use Rattle.scop_core.specs.ScopData.{ScopData, betas_in}
 use Rattle.scop_core.specs.Memory.{Memory}
 use Rattle.scop_core.specs.Theorems.{HasValidSchedules}
+use Rattle.row_core.specs.Dense.{dense_of}
+use Rattle.scop_core.specs.DenseBetas.{dense_vector, densely_numbered}
 
 -- the members of the list are the instances, in any order; an instance may stand in it more than once
 pub record ListsInstances (S : ScopData) (n : List ℤ) (L : List Instance) : Type 0 where
@@ -83,3 +85,44 @@ abbrev pub SchedulesOrderAtALevel : Type 0
 SchedulesOrderAtALevel = (s t : Schedule) → length s.betas ≡ length s.levels + 1 → length t.betas ≡ length t.levels + 1 → (x y n : List ℤ)
     → Before (stamp_of s x n) (stamp_of t y n)
     ↔ ((l : ℕ) × IsLevel s.betas t.betas l × OrdersAt (common_loops s.betas t.betas) (level_values s x n) (level_values t y n) l)
+
+-- one stamp is before another exactly where it is with the dense vectors of their betas
+abbrev pub DenseKeepsOrder : Type 0
+DenseKeepsOrder = (vectors : List (List ℤ)) (p q v w : List ℤ) → In p vectors → In q vectors
+    → Before (interleaved (dense_vector vectors p) v) (interleaved (dense_vector vectors q) w) ↔ Before (interleaved p v) (interleaved q w)
+
+-- dense vectors have the levels between them that the vectors have
+abbrev pub DenseKeepsLevels : Type 0
+DenseKeepsLevels = (vectors : List (List ℤ)) (p q : List ℤ) → In p vectors → In q vectors
+    → (common_loops (dense_vector vectors p) (dense_vector vectors q) ≡ common_loops p q)
+    × (is_textually_before (dense_vector vectors p) (dense_vector vectors q) ≡ is_textually_before p q)
+
+-- the vectors are those of the dense numbering
+abbrev pub DenseVectorsAreTheirs : Type 0
+DenseVectorsAreTheirs = (S : ScopData) → betas_in (densely_numbered S).statements ≡ map (λ v. map pos v) (dense_of (betas_in S.statements))
+
+-- T has the instances of S, with the same events, and their stamps are ordered in the same way
+pub record KeepsMeaning (T S : ScopData) (n : List ℤ) : Type 0 where
+  pub instances : (a : Instance) → IsInstance T n a ↔ IsInstance S n a
+  pub events : (a : Instance) → event T n a ≡ event S n a
+  pub order : (a b : Instance) → Before (stamp T n a) (stamp T n b) ↔ Before (stamp S n a) (stamp S n b)
+
+-- then they have the same runs and conflicts, and the same memory after any list of instances
+pub record SameRuns (T S : ScopData) (n : List ℤ) : Type 0 where
+  pub runs : (L : List Instance) → Run T n L ↔ Run S n L
+  pub conflicts : (a b : Instance) → Conflict T n a b ↔ Conflict S n a b
+  pub memories : (L : List Instance) (m : Memory) → memory_after T n L m ≡ memory_after S n L m
+
+abbrev pub KeptMeaningHasSameRuns : Type 0
+KeptMeaningHasSameRuns = (T S : ScopData) (n : List ℤ) → KeepsMeaning T S n → SameRuns T S n
+
+-- the dense numbering keeps the meaning, and so a run with dense vectors is a run with the SCoP's own
+abbrev pub DenseKeepsMeaning : Type 0
+DenseKeepsMeaning = (S : ScopData) (n : List ℤ) → KeepsMeaning (densely_numbered S) S n
+
+abbrev pub DenseKeepsRuns : Type 0
+DenseKeepsRuns = (S : ScopData) (n : List ℤ) → SameRuns (densely_numbered S) S n
+
+-- schedules that are valid stay so
+abbrev pub DenseKeepsSchedulesValid : Type 0
+DenseKeepsSchedulesValid = (S : ScopData) → HasValidSchedules S.statements → HasValidSchedules (densely_numbered S).statements

@@ -1,7 +1,7 @@
 //! The laws of runs on which dependences and edits rest, for every SCoP: functions that do nothing, and
 //! whose contracts are the laws.
 
-ghost use Rattle.scop_core.specs.RunLaws.{RunExists, PrecedesIsBefore, SameEventsGiveOneMemory, SameEventsTouch, BeforeByLevels, BeforeIsAtALevel, OneVectorHasAllLoops, LoopsAreCommon, LevelsAreListed, LevelsByEntries, SchedulesOrderAtALevel};
+ghost use Rattle.scop_core.specs.RunLaws.{RunExists, PrecedesIsBefore, SameEventsGiveOneMemory, SameEventsTouch, BeforeByLevels, BeforeIsAtALevel, OneVectorHasAllLoops, LoopsAreCommon, LevelsAreListed, LevelsByEntries, SchedulesOrderAtALevel, DenseKeepsOrder, DenseKeepsLevels, DenseVectorsAreTheirs, KeptMeaningHasSameRuns, DenseKeepsMeaning, DenseKeepsRuns, DenseKeepsSchedulesValid};
 
 /// A run exists where the schedules are valid, a list has exactly the instances as members, and equal
 /// stamps come only from equal instances. Nothing is asked of limits.
@@ -63,4 +63,40 @@ pub fn levels_by_entries()
 /// beta vectors orders the values of their levels.
 pub fn schedules_order_at_a_level()
     ensures { SchedulesOrderAtALevel }
+{}
+
+/// One stamp is before another exactly where it is with the dense vectors of their betas.
+pub fn dense_keeps_order()
+    ensures { DenseKeepsOrder }
+{}
+
+/// Dense vectors have as many loops around both, and the same order in the text.
+pub fn dense_keeps_levels()
+    ensures { DenseKeepsLevels }
+{}
+
+/// The vectors of the densely numbered SCoP are those of the dense numbering of its vectors.
+pub fn dense_vectors_are_theirs()
+    ensures { DenseVectorsAreTheirs }
+{}
+
+/// Two SCoPs with the same instances and events, and the same order of stamps, have the same runs and
+/// conflicts, and the same memory after any list of instances.
+pub fn kept_meaning_has_same_runs()
+    ensures { KeptMeaningHasSameRuns }
+{}
+
+/// The densely numbered SCoP has the instances and events of the SCoP, and the order of their stamps.
+pub fn dense_keeps_meaning()
+    ensures { DenseKeepsMeaning }
+{}
+
+/// A run of the densely numbered SCoP is a run of the SCoP.
+pub fn dense_keeps_runs()
+    ensures { DenseKeepsRuns }
+{}
+
+/// Valid schedules stay valid when they are densely numbered.
+pub fn dense_keeps_schedules_valid()
+    ensures { DenseKeepsSchedulesValid }
 {}
