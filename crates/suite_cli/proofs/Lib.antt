@@ -6,4 +6,5 @@ pub mod ShortNumbers
 pub mod Printables
 pub mod Assembled
 pub mod ScopTexts
+pub mod FileLists
 pub mod RunAnswers

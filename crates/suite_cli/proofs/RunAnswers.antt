@@ -7,16 +7,21 @@ use Rattle.suite_base.specs.declared.refusals.Refusal.{Refusal}
 use Rattle.suite_base.specs.declared.refusals.Refusal.TheVariants.{NoRegion, OutsideFirstPath, TooLong}
 use Rattle.scop_core.specs.ScopData.{ScopData}
 use Rattle.scop_core.specs.Layouts.{layout}
-use Rattle.scop_reader.specs.Texts.{fault}
+use Rattle.scop_reader.specs.Texts.{IsScopText, fault}
 use Rattle.scop_reader.proofs.FaultPieces.{fault_is_not_too_long_law}
 use Rattle.clan_extract.proofs.OneLoops.{one_loop_means, one_loop_names}
 use Rattle.suite_cli.specs.declared.outcomes.Outcome.{Outcome}
 use Rattle.suite_cli.specs.declared.outcomes.Outcome.TheVariants.{Done, Refused, Usage, ReadFault, WriteFault, Memory}
-use Rattle.suite_cli.specs.Answers.{Answers, CommandAnswers, Completes, IsLoopText, IsRefused, IsTooLong, RefusalCause, Refuses, Reported, Takes, Told, Translates, World, opening_of, reading_of, scop_of, writing_of}
-use Rattle.suite_cli.specs.Commands.{Command, Clan, Scop, Words, file_of}
-use Rattle.suite_cli.specs.FirstForm.{AreWords, IsFirstForm, IsHead, IsAssignment, IsRefusal, LoopWords, content_lines, frame_of, loop_of}
+use Rattle.suite_cli.specs.Answers.{Answers, CommandAnswers, Completes, IsRefused, ReadingAnswers, RefusalCause, Reported}
+use Rattle.suite_cli.specs.ClanPromise as clan
+use Rattle.suite_cli.specs.ClanPromise.{IsLoopText, scop_of}
+use Rattle.suite_cli.specs.Commands.{Command, Clan, Scop, Words, files_of}
+use Rattle.suite_cli.specs.FirstForm.{AreWords, IsFirstForm, IsHead, IsAssignment, LoopWords, content_lines, frame_of, loop_of}
 use Rattle.suite_cli.specs.Messages.{message}
-use Rattle.suite_cli.specs.Reads.{FaultCause, Faults, Faulty, Holds, IsReadFaulty, Named, Tells}
+use Rattle.suite_cli.specs.Promises.{OfOne, Refuses, StopCause, Takes}
+use Rattle.suite_cli.specs.Reads.{AreRead, AreReadable, FaultCause, HasReadFault, Holds, IsLong, IsReadFaulty, IsReadable, IsTooLong, Named, StopsAt, Tells}
+use Rattle.suite_cli.specs.ScopPromise as scop
+use Rattle.suite_cli.specs.Worlds.{Inputs, IsUnwritten, IsWriteFaulty, Output, World}
 use Rattle.suite_cli.proofs.ScopTexts.{text_has_no_fault}
 use Rattle.suite_cli.proofs.WordLists.{one_command}
 
@@ -35,14 +40,16 @@ pub are_words : (bytes : List ℕ) (l : LoopWords) → IsFirstForm bytes l → A
 are_words bytes l f = words_in (frame_of (content_lines bytes)) l f.framed
 
 -- the layout of its SCoP translates a loop
-pub translates : (text output : List ℕ) (scop : ScopData) (l : LoopWords) → IsLoopText text l → output ≡ layout scop → scop ≡ scop_of l → Translates text output
-translates text output scop l loop e s = record {
+pub translates : (text output : List ℕ) (S : ScopData) (l : LoopWords) → IsLoopText text l → output ≡ layout S → S ≡ scop_of l → clan.Makes text output
+translates text output S l loop e s = record {
   words = l;
   loop = loop;
   layout_is = e ∙ ap layout s;
   means = one_loop_means (loop_of l);
   names = one_loop_names (loop_of l);
 }
+
+-- ---- what is told
 
 told_by : (o : Option (List ℕ)) (P : List ℕ → Type 0) (bytes : List ℕ) → o ≡ Some bytes → IfSome o P → P bytes
 told_by o P bytes e h = let Q : Option (List ℕ) → Type 0 = λ v. IfSome v P in subst Q e h
@@ -52,89 +59,156 @@ held_by : (held : Option (List (List ℕ × List ℕ))) (P : List ℕ → Type 0
 held_by None P name bytes e h = absurd e
 held_by (Some files) P name bytes e h = let Q : Option (List ℕ) → Type 0 = λ v. IsSomeAnd v P in subst Q e h
 
-named_by : (held : Option (List (List ℕ × List ℕ))) (left : Option (List ℕ)) (file bytes : List ℕ) (P : List ℕ → Type 0) → Tells held left file bytes → Named held left file P → P bytes
-named_by held left file bytes P (inl (i, e)) (inl (j, h)) = told_by left P bytes e h
-named_by held left file bytes P (inr (i, e)) (inr (j, h)) = held_by held P file bytes e h
-named_by held left file bytes P (inl (i, e)) (inr (j, h)) = absurd (cc)
-named_by held left file bytes P (inr (i, e)) (inl (j, h)) = absurd (cc)
+named_by : (inputs : Inputs) (file bytes : List ℕ) (P : List ℕ → Type 0) → Tells inputs file bytes → Named inputs file P → P bytes
+named_by inputs file bytes P (inl (i, e)) (inl (j, h)) = told_by inputs.left P bytes e h
+named_by inputs file bytes P (inr (i, e)) (inr (j, h)) = held_by inputs.held P file bytes e h
+named_by inputs file bytes P (inl (i, e)) (inr (j, h)) = absurd (cc)
+named_by inputs file bytes P (inr (i, e)) (inl (j, h)) = absurd (cc)
 
 not_missing : (held : Option (List (List ℕ × List ℕ))) (name bytes : List ℕ) → Holds held name bytes → ¬ IsMissing held name
 not_missing None name bytes e h = absurd e
 not_missing (Some files) name bytes e h = absurd (cc)
 
 -- the fault of a file that is told was counted
-counted : (held : Option (List (List ℕ × List ℕ))) (left : Option (List ℕ)) (opening reading : Faults) (file bytes : List ℕ) → Tells held left file bytes → FaultCause held opening reading file → IsReadFaulty opening reading file
-counted held left opening reading file bytes t (inl c) = inl c
-counted held left opening reading file bytes t (inr (i, inl c)) = inr (i, c)
-counted held left opening reading file bytes (inl (j, e)) (inr (i, inr m)) = absurd (cc)
-counted held left opening reading file bytes (inr (j, e)) (inr (i, inr m)) = absurd (not_missing held file bytes e m)
+counted : (before now : Inputs) (file bytes : List ℕ) → Tells before file bytes → FaultCause before now file → IsReadFaulty before now file
+counted before now file bytes t (inl c) = inl c
+counted before now file bytes t (inr (i, inl c)) = inr (i, c)
+counted before now file bytes (inl (j, e)) (inr (i, inr m)) = absurd (cc)
+counted before now file bytes (inr (j, e)) (inr (i, inr m)) = absurd (not_missing before.held file bytes e m)
+
+-- the texts that were read are those that are told
+same_texts : (before now : Inputs) (files texts told : List (List ℕ)) → AreRead before now files texts → AreReadable before now files told → texts ≡ told
+same_texts before now [] [] [] r t = refl
+same_texts before now (f ∷ files) (x ∷ texts) (y ∷ told) r t =
+    let one : x ≡ y = named_by before f y (λ bytes. x ≡ bytes) t.0.told r.0.whole in
+    let more : texts ≡ told = same_texts before now files texts told r.1 t.1 in
+    cc
+same_texts before now [] (x ∷ texts) told r t = absurd r
+same_texts before now [] [] (y ∷ told) r t = absurd t
+same_texts before now (f ∷ files) [] told r t = absurd r
+same_texts before now (f ∷ files) (x ∷ texts) [] r t = absurd t
+
+-- what is told of each word is told of that at a place
+readable_at : (before now : Inputs) (earlier later told : List (List ℕ)) (file : List ℕ) → AreReadable before now (earlier ++ file ∷ later) told → (text : List ℕ) × IsReadable before now file text
+readable_at before now [] later (y ∷ told) file t = (y, t.0)
+readable_at before now [] later [] file t = absurd t
+readable_at before now (f ∷ earlier) later (y ∷ told) file t = readable_at before now earlier later told file t.1
+readable_at before now (f ∷ earlier) later [] file t = absurd t
+
+stop_of : (before now : Inputs) (files told : List (List ℕ)) (place : ℕ) (P : List ℕ → Type 0) → AreReadable before now files told → StopsAt before now files place P → (file : List ℕ) × (text : List ℕ) × IsReadable before now file text × P file
+stop_of before now files told place P t s =
+    let Q : List (List ℕ) → Type 0 = λ fs. AreReadable before now fs told in
+    let one = readable_at before now s.earlier s.later told s.file (subst Q s.files_are t) in
+    (s.file, one.0, one.1, s.stop)
+
+-- no such file is too long
+no_length : (before now : Inputs) (files told : List (List ℕ)) (place : ℕ) → AreReadable before now files told → ¬ IsTooLong before now files place
+no_length before now files told place t s =
+    let one = stop_of before now files told place (IsLong before) t s in
+    let long : max_input < length one.1 = named_by before one.0 one.1 (λ bytes. max_input < length bytes) one.2.told one.3 in
+    let short : length one.1 ≤ max_input = one.2.short in
+    omega arith
+
+-- nor can it be unreadable
+no_read_fault : (before now : Inputs) (files told : List (List ℕ)) → AreReadable before now files told → ¬ HasReadFault before now files
+no_read_fault before now files told t h =
+    let one = stop_of before now files told h.0 (FaultCause before now) t h.1 in
+    one.2.sound (counted before now one.0 one.1 one.2.told one.3)
+
+-- ---- refusals
 
 -- a text of a loop is not refused
-no_loop_refusal : (text : List ℕ) (l : LoopWords) (refusal : Refusal) → IsLoopText text l → ¬ IsRefusal text refusal
+no_loop_refusal : (text : List ℕ) (l : LoopWords) (refusal : Refusal) → IsLoopText text l → ¬ clan.Refuses text refusal
 no_loop_refusal text l NoRegion t h = h t.opened
 no_loop_refusal text l OutsideFirstPath t h = h.1 l t.form
 no_loop_refusal text l refusal t h = absurd h
 
--- a text that a command takes is not refused
-not_refused : (command : Command) (text : List ℕ) (refusal : Refusal) → Takes command text → ¬ Refuses command text refusal
-not_refused (Clan file) text refusal t h = no_loop_refusal text t.0 refusal t.1 h
-not_refused (Scop file) text refusal t h = let none : fault text ≡ None = text_has_no_fault text t.0 t.1 in absurd (cc)
+no_scop_refusal : (text : List ℕ) (S : ScopData) (refusal : Refusal) → IsScopText text S → ¬ scop.Refuses text refusal
+no_scop_refusal text S refusal t h = let none : fault text ≡ None = text_has_no_fault text S t in absurd (cc)
+
+-- what one text excludes, a list of one does
+one_excludes : (P Q : List ℕ → Type 0) → ((text : List ℕ) → P text → ¬ Q text) → (texts : List (List ℕ)) → OfOne P texts → ¬ OfOne Q texts
+one_excludes P Q none [] p q = p
+one_excludes P Q none (text ∷ []) p q = none text p q
+one_excludes P Q none (text ∷ (more ∷ texts)) p q = p
+
+-- texts that a command takes are not refused
+not_refused : (command : Command) (texts : List (List ℕ)) (place : ℕ) (refusal : Refusal) → Takes command texts → ¬ Refuses command texts place refusal
+not_refused (Clan file) texts place refusal t h = one_excludes clan.Takes (λ text. clan.Refuses text refusal) (λ text p. no_loop_refusal text p.0 refusal p.1) texts t h.1
+not_refused (Scop file) texts place refusal t h = one_excludes scop.Takes (λ text. scop.Refuses text refusal) (λ text p. no_scop_refusal text p.0 refusal p.1) texts t h.1
+
+-- what no text has, no list of one has
+none_of_one : (P : List ℕ → Type 0) → ((text : List ℕ) → ¬ P text) → (texts : List (List ℕ)) → ¬ OfOne P texts
+none_of_one P none [] h = h
+none_of_one P none (text ∷ []) h = none text h
+none_of_one P none (text ∷ (more ∷ texts)) h = h
 
 -- no command refuses a text as too long
-never_long : (command : Command) (text : List ℕ) → ¬ Refuses command text TooLong
-never_long (Clan file) text h = h
-never_long (Scop file) text h = fault_is_not_too_long_law text h
+never_long : (command : Command) (texts : List (List ℕ)) (place : ℕ) → ¬ Refuses command texts place TooLong
+never_long (Clan file) texts place h = none_of_one (λ text. clan.Refuses text TooLong) (λ text r. r) texts h.1
+never_long (Scop file) texts place h = none_of_one (λ text. scop.Refuses text TooLong) fault_is_not_too_long_law texts h.1
 
-cause_unless_long : (command : Command) (before now : World) (refusal : Refusal) → ¬ (refusal ≡ TooLong) → IsRefused command before now refusal → RefusalCause command before now refusal
-cause_unless_long command before now TooLong other h = absurd (other refl)
-cause_unless_long command before now refusal other h = h
+cause_unless_long : (command : Command) (before now : Inputs) (place : ℕ) (refusal : Refusal) → ¬ (refusal ≡ TooLong) → IsRefused command before now place refusal → RefusalCause command before now place refusal
+cause_unless_long command before now place TooLong other h = absurd (other refl)
+cause_unless_long command before now place refusal other h = h
 
--- a text that was read and is refused has its cause
-pub cause_of : (command : Command) (before now : World) (refusal : Refusal) → IsRefused command before now refusal → RefusalCause command before now refusal
-cause_of command before now refusal h =
-    let other : ¬ (refusal ≡ TooLong) = λ e. never_long command h.text (subst (Refuses command h.text) e h.refused) in
-    cause_unless_long command before now refusal other h
+-- texts that were read and are refused have their cause
+cause_of : (command : Command) (before now : Inputs) (place : ℕ) (refusal : Refusal) → IsRefused command before now place refusal → RefusalCause command before now place refusal
+cause_of command before now place refusal h =
+    let other : ¬ (refusal ≡ TooLong) = λ e. never_long command h.texts place (subst (Refuses command h.texts place) e h.refused) in
+    cause_unless_long command before now place refusal other h
 
--- what a cause says: the length, or the text that was read
-either_cause : (command : Command) (before now : World) (refusal : Refusal) → RefusalCause command before now refusal → IsTooLong command before ⊎ IsRefused command before now refusal
-either_cause command before now TooLong h = inl h
-either_cause command before now refusal h = inr h
+-- ---- the outcome of a run that made no output
 
-no_length : (command : Command) (before : World) (bytes : List ℕ) → Tells before.held before.left (file_of command) bytes → length bytes ≤ max_input → ¬ IsTooLong command before
-no_length command before bytes told short h =
-    let long : max_input < length bytes = named_by before.held before.left (file_of command) bytes (λ b. max_input < length b) told h in
-    omega arith
+-- the outcome of files that were not all read is the command's
+pub unread_answers : (command : Command) (before now : World) (outcome : Outcome) → IsUnwritten before now → ReadingAnswers (files_of command) before.inputs now.inputs outcome → CommandAnswers command before now outcome
+unread_answers command before now (Refused place TooLong) u h = (h, u)
+unread_answers command before now ReadFault u h = (h, u)
+unread_answers command before now Memory u h = u
+unread_answers command before now outcome u h = absurd h
 
-no_text_refusal : (command : Command) (before now : World) (bytes : List ℕ) (refusal : Refusal) → Tells before.held before.left (file_of command) bytes → Takes command bytes → ¬ IsRefused command before now refusal
-no_text_refusal command before now bytes refusal told taken h =
-    let same : h.text ≡ bytes = named_by before.held before.left (file_of command) bytes (λ b. h.text ≡ b) told h.read.whole in
-    let P : List ℕ → Type 0 = λ b. Refuses command b refusal in
-    not_refused command bytes refusal taken (subst P same h.refused)
+-- the outcome of texts that were refused is the command's
+pub refused_answers : (command : Command) (before now : World) (texts : List (List ℕ)) (outcome : Outcome) → IsUnwritten before now → AreRead before.inputs now.inputs (files_of command) texts → StopCause command texts outcome
+    → CommandAnswers command before now outcome
+refused_answers command before now texts (Refused place refusal) u r h = (cause_of command before.inputs now.inputs place refusal (record { texts = texts; read = r; refused = h }), u)
+refused_answers command before now texts Memory u r h = u
+refused_answers command before now texts outcome u r h = absurd h
 
--- a complete file has no refusal
-no_refusal : (command : Command) (before now : World) (bytes : List ℕ) (refusal : Refusal) → Tells before.held before.left (file_of command) bytes → length bytes ≤ max_input → Takes command bytes
-    → ¬ RefusalCause command before now refusal
-no_refusal command before now bytes refusal told short taken h =
-    elim (either_cause command before now refusal h) [
-      | inl long ↦ no_length command before bytes told short long
-      | inr text ↦ no_text_refusal command before now bytes refusal told taken text
+-- ---- completeness
+
+-- what a cause says: the length, or the texts that were read
+either_cause : (command : Command) (before now : Inputs) (place : ℕ) (refusal : Refusal) → RefusalCause command before now place refusal → IsTooLong before now (files_of command) place ⊎ IsRefused command before now place refusal
+either_cause command before now place TooLong h = inl h
+either_cause command before now place refusal h = inr h
+
+no_text_refusal : (command : Command) (before now : Inputs) (told : List (List ℕ)) (place : ℕ) (refusal : Refusal) → AreReadable before now (files_of command) told → Takes command told → ¬ IsRefused command before now place refusal
+no_text_refusal command before now told place refusal t taken h =
+    let same : h.texts ≡ told = same_texts before now (files_of command) h.texts told h.read t in
+    let P : List (List ℕ) → Type 0 = λ texts. Refuses command texts place refusal in
+    not_refused command told place refusal taken (subst P same h.refused)
+
+-- complete files have no refusal
+no_refusal : (command : Command) (before now : Inputs) (told : List (List ℕ)) (place : ℕ) (refusal : Refusal) → AreReadable before now (files_of command) told → Takes command told → ¬ RefusalCause command before now place refusal
+no_refusal command before now told place refusal t taken h =
+    elim (either_cause command before now place refusal h) [
+      | inl long ↦ no_length before now (files_of command) told place t long
+      | inr text ↦ no_text_refusal command before now told place refusal t taken text
     ]
 
--- what the outcome tells of a complete file
-complete_for : (command : Command) (before now : World) (outcome : Outcome) (bytes : List ℕ) → Tells before.held before.left (file_of command) bytes → length bytes ≤ max_input → Takes command bytes
-    → ¬ IsReadFaulty (opening_of before now) (reading_of before now) (file_of command) → ¬ Faulty (writing_of before now)
+-- what the outcome tells of complete files
+complete_for : (command : Command) (before now : World) (outcome : Outcome) (told : List (List ℕ)) → AreReadable before.inputs now.inputs (files_of command) told → Takes command told → ¬ IsWriteFaulty before.output now.output
     → CommandAnswers command before now outcome → (outcome ≡ Done) ⊎ (outcome ≡ Memory)
-complete_for command before now Done bytes t s k r w h = inl refl
-complete_for command before now (Refused file refusal) bytes t s k r w h = absurd (no_refusal command before now bytes refusal t s k h.1)
-complete_for command before now Usage bytes t s k r w h = absurd h
-complete_for command before now ReadFault bytes t s k r w h = absurd (r (counted before.held before.left (opening_of before now) (reading_of before now) (file_of command) bytes t h.0))
-complete_for command before now WriteFault bytes t s k r w h = absurd (w h.0)
-complete_for command before now Memory bytes t s k r w h = inr refl
+complete_for command before now Done told t k w h = inl refl
+complete_for command before now (Refused place refusal) told t k w h = absurd (no_refusal command before.inputs now.inputs told place refusal t k h.0)
+complete_for command before now Usage told t k w h = absurd h
+complete_for command before now ReadFault told t k w h = absurd (no_read_fault before.inputs now.inputs (files_of command) told t h.0)
+complete_for command before now WriteFault told t k w h = absurd (w h.0)
+complete_for command before now Memory told t k w h = inr refl
 
 complete_by : (words : List (List ℕ)) (before now : World) (outcome : Outcome) (command : Command) → Words words command → CommandAnswers command before now outcome → Completes words before now outcome
 complete_by words before now outcome command asked h k =
     let P : Command → Type 0 = λ c. CommandAnswers c before now outcome in
-    complete_for k.command before now outcome k.bytes k.told k.short k.taken k.read k.wrote (subst P (one_command words command k.command asked k.asked) h)
+    complete_for k.command before now outcome k.texts k.readable k.taken k.wrote (subst P (one_command words command k.command asked k.asked) h)
 
 -- what the outcome tells is all that completeness asks
 pub complete_of : (words : List (List ℕ)) (before now : World) (outcome : Outcome) → Answers words before now outcome → Completes words before now outcome
@@ -157,23 +231,23 @@ nothing_part : (a c : Option (List ℕ)) → WrotePart a [] c → c ≡ a
 nothing_part a c h = let P : List ℕ → Type 0 = λ d. Wrote a d c in nothing_wrote a c (subst P (front_empty h.0 h.1 h.2) h.3)
 
 -- what the message's writer tells is what the outcome asks
-reported_ok : (error : Told) (reporting : Faults) (outcome : Outcome) → Wrote error.before (message outcome) error.now → Reported error reporting outcome
-reported_ok error reporting Done h = nothing_wrote error.before error.now h
-reported_ok error reporting (Refused file refusal) h = inl h
-reported_ok error reporting Usage h = inl h
-reported_ok error reporting ReadFault h = inl h
-reported_ok error reporting WriteFault h = inl h
-reported_ok error reporting Memory h = inl h
+reported_ok : (before now : Output) (outcome : Outcome) → Wrote before.written (message outcome) now.written → Reported before now outcome
+reported_ok before now Done h = nothing_wrote before.written now.written h
+reported_ok before now (Refused file refusal) h = inl h
+reported_ok before now Usage h = inl h
+reported_ok before now ReadFault h = inl h
+reported_ok before now WriteFault h = inl h
+reported_ok before now Memory h = inl h
 
-reported_part : (error : Told) (reporting : Faults) (outcome : Outcome) → Faulty reporting → WrotePart error.before (message outcome) error.now → Reported error reporting outcome
-reported_part error reporting Done f h = nothing_part error.before error.now h
-reported_part error reporting (Refused file refusal) f h = inr (f, h)
-reported_part error reporting Usage f h = inr (f, h)
-reported_part error reporting ReadFault f h = inr (f, h)
-reported_part error reporting WriteFault f h = inr (f, h)
-reported_part error reporting Memory f h = inr (f, h)
+reported_part : (before now : Output) (outcome : Outcome) → IsWriteFaulty before now → WrotePart before.written (message outcome) now.written → Reported before now outcome
+reported_part before now Done f h = nothing_part before.written now.written h
+reported_part before now (Refused file refusal) f h = inr (f, h)
+reported_part before now Usage f h = inr (f, h)
+reported_part before now ReadFault f h = inr (f, h)
+reported_part before now WriteFault f h = inr (f, h)
+reported_part before now Memory f h = inr (f, h)
 
-pub reported_of : {T E : Type 0} (r : Result T E) (error : Told) (reporting : Faults) (outcome : Outcome) → OnOk r (Wrote error.before (message outcome) error.now)
-    → OnErr r (WrotePart error.before (message outcome) error.now) → OnErr r (Faulty reporting) → Reported error reporting outcome
-reported_of (Ok x) error reporting outcome ok part cause = reported_ok error reporting outcome ok
-reported_of (Err e) error reporting outcome ok part cause = reported_part error reporting outcome cause part
+pub reported_of : {T E : Type 0} (r : Result T E) (before now : Output) (outcome : Outcome) → OnOk r (Wrote before.written (message outcome) now.written)
+    → OnErr r (WrotePart before.written (message outcome) now.written) → OnErr r (IsWriteFaulty before now) → Reported before now outcome
+reported_of (Ok x) before now outcome ok part cause = reported_ok before now outcome ok
+reported_of (Err e) before now outcome ok part cause = reported_part before now outcome cause part

@@ -1,12 +1,8 @@
-use Rattle.std.proofs.Common.{◌≡◌, ℕ, List, [], ◌∷◌, length, slice_get, Some, ap, ◌≢◌, arith, false, true, nat_eq, ◌∙◌, sym}
+use Rattle.std.proofs.Common.{◌≡◌, ℕ, ◌+◌, ◌≤◌, Bool, List, [], ◌∷◌, length, slice_get, Option, Some, None, ap, arith, false, true, refl, ◌∙◌, sym, if◌then◌else◌, cond}
 use Rattle.std.specs.Prelude.{codes}
-use Rattle.suite_cli.specs.Commands.{IsCommandOn, Command, Clan, Scop, IsNoCommand, Words, is_file_word}
-
-first_is : (xs ys : List (List ℕ)) (a b : List ℕ) → a ∷ xs ≡ b ∷ ys → a ≡ b
-first_is xs ys a b e = cc
-
-second_is : (a b c d : List ℕ) → a ∷ (b ∷ []) ≡ c ∷ (d ∷ []) → b ≡ d
-second_is a b c d e = cc
+use Rattle.std.specs.Str.{bytes_eq}
+use Rattle.std.proofs.lemmas.List.Elements.{All-cons, All-nil}
+use Rattle.suite_cli.specs.Commands.{AreFileWords, Command, Clan, Scop, Words, is_file_word, is_input, words_of}
 
 some_is : (xs ys : List ℕ) → Some xs ≡ Some ys → xs ≡ ys
 some_is xs ys e = cc
@@ -18,39 +14,30 @@ two_words (x ∷ []) a b l e f = absurd (omega arith)
 two_words (x ∷ (y ∷ [])) a b l e f = let p : x ≡ a = some_is x a e in let q : y ≡ b = some_is y b f in cc
 two_words (x ∷ (y ∷ (z ∷ more))) a b l e f = absurd (omega arith)
 
--- words of another number ask for nothing
-pub other_number : (words : List (List ℕ)) → length words ≢ 2 → IsNoCommand words
-other_number words h (Clan file) w = h (ap length w.words_are)
-other_number words h (Scop file) w = h (ap length w.words_are)
+-- a word that names a file is one file word
+count_one : (b : Bool) → 0 + cond b 1 0 ≤ 1
+count_one true = omega arith
+count_one false = omega arith
 
-no_file : (words : List (List ℕ)) (a b c f : List ℕ) → words ≡ a ∷ (f ∷ []) → is_file_word f ≡ false → ¬ IsCommandOn words b c
-no_file words a b c f e h w =
-    let same : f ≡ c = second_is a f b c (sym e ∙ w.words_are) in
-    let no_word : is_file_word c ≡ false = sym (ap is_file_word same) ∙ h in
-    let named = w.named in
-    absurd (cc)
+pub one_file : (file : List ℕ) → is_file_word file ≡ true → AreFileWords (file ∷ [])
+one_file file e = record {
+  each = All-cons (λ word. is_file_word word ≡ true) file [] e (All-nil (λ word. is_file_word word ≡ true));
+  once = count_one (is_input file);
+}
 
--- nor do two of which the second names no file
-pub no_file_word : (words : List (List ℕ)) (a f : List ℕ) → words ≡ a ∷ (f ∷ []) → is_file_word f ≡ false → IsNoCommand words
-no_file_word words a f e h (Clan file) w = no_file words a _ _ f e h w
-no_file_word words a f e h (Scop file) w = no_file words a _ _ f e h w
+-- the command that words are
+command_in : List (List ℕ) → Option Command
+command_in (name ∷ (file ∷ [])) = if bytes_eq name (codes "clan") then Some (Clan file) else if bytes_eq name (codes "scop") then Some (Scop file) else None
+command_in words = None
 
--- nor those whose first is no command
-pub other_command : (a f : List ℕ) → a ≢ codes "clan" → a ≢ codes "scop" → IsNoCommand (a ∷ (f ∷ []))
-other_command a f h k (Clan file) w = h (first_is _ _ _ _ w.words_are)
-other_command a f h k (Scop file) w = k (first_is _ _ _ _ w.words_are)
+read_back : (command : Command) → command_in (words_of command) ≡ Some command
+unfolding command_in
+read_back (Clan file) = refl
+read_back (Scop file) = refl
 
-first_byte : List ℕ → ℕ
-first_byte [] = 0
-first_byte (b ∷ word) = b
-
-clan_is_no_scop : codes "clan" ≡ codes "scop" → ⊥
-unfolding first_byte
-clan_is_no_scop e = let same : 99 ≡ 115 = ap first_byte e in let false_is : true ≡ false = ap (λ n. nat_eq n 99) same in absurd (cc)
+some_command : (a b : Command) → Some a ≡ Some b → a ≡ b
+some_command a b e = cc
 
 -- words are one command
 pub one_command : (words : List (List ℕ)) (a b : Command) → Words words a → Words words b → a ≡ b
-one_command words (Clan f) (Clan g) v w = ap Clan (second_is _ _ _ _ (sym v.words_are ∙ w.words_are))
-one_command words (Scop f) (Scop g) v w = ap Scop (second_is _ _ _ _ (sym v.words_are ∙ w.words_are))
-one_command words (Clan f) (Scop g) v w = absurd (clan_is_no_scop (first_is _ _ _ _ (sym v.words_are ∙ w.words_are)))
-one_command words (Scop f) (Clan g) v w = absurd (clan_is_no_scop (first_is _ _ _ _ (sym w.words_are ∙ v.words_are)))
+one_command words a b v w = some_command a b (sym (read_back a) ∙ ap command_in (sym v.words_are ∙ w.words_are) ∙ read_back b)

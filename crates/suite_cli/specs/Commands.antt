@@ -1,10 +1,11 @@
 -- The commands that the program's words name.
-use Rattle.std.specs.Prelude.{◌≡◌, ℕ, Bool, true, false, not, ◌||◌, ◌==◌, List, [], ◌∷◌, codes}
+use Rattle.std.specs.Prelude.{◌≡◌, ℕ, ◌≤◌, Bool, true, false, not, ◌||◌, ◌==◌, List, [], ◌∷◌, codes}
+use Rattle.std.specs.List.{AllPass, count_by, list_all, list_any}
 use Rattle.std.specs.Str.{bytes_eq}
 use Rattle.suite_cli.specs.declared.commands.Work.{Work}
 use Rattle.suite_cli.specs.declared.commands.Work.TheVariants as work
 
--- a command with the word of its file
+-- a command with the words of its files
 pub data Command : Type 0 where
   Clan : (file : List ℕ) → Command
   Scop : (file : List ℕ) → Command
@@ -14,10 +15,15 @@ abbrev pub command_of : Work → Command
 command_of (work.Clan file) = Clan file.now
 command_of (work.Scop file) = Scop file.now
 
--- the word of the file that a command reads
-abbrev pub file_of : Command → List ℕ
-file_of (Clan file) = file
-file_of (Scop file) = file
+-- the words of the files that a command reads, in their order
+abbrev pub files_of : Command → List (List ℕ)
+files_of (Clan file) = file ∷ []
+files_of (Scop file) = file ∷ []
+
+-- the words of a command
+abbrev pub words_of : Command → List (List ℕ)
+words_of (Clan file) = codes "clan" ∷ (file ∷ [])
+words_of (Scop file) = codes "scop" ∷ (file ∷ [])
 
 -- the word for standard input
 abbrev pub is_input : List ℕ → Bool
@@ -31,15 +37,23 @@ is_file_name (b ∷ word) = not (b == 45)
 abbrev pub is_file_word : List ℕ → Bool
 is_file_word word = is_input word || is_file_name word
 
--- the name of a command, and a word that names a file
-pub record IsCommandOn (words : List (List ℕ)) (name file : List ℕ) : Type 0 where
-  pub words_are : words ≡ name ∷ (file ∷ [])
-  pub named : is_file_word file ≡ true
+-- some file is standard input
+abbrev pub has_input : List (List ℕ) → Bool
+has_input files = list_any is_input files
 
--- the words of a command
-abbrev pub Words : List (List ℕ) → Command → Type 0
-Words words (Clan file) = IsCommandOn words (codes "clan") file
-Words words (Scop file) = IsCommandOn words (codes "scop") file
+-- each file is standard input
+abbrev pub has_no_name : List (List ℕ) → Bool
+has_no_name files = list_all is_input files
+
+-- each word names a file, and standard input is named at most once
+pub record AreFileWords (files : List (List ℕ)) : Type 0 where
+  pub each : AllPass is_file_word files
+  pub once : count_by is_input files ≤ 1
+
+-- these words are this command
+pub record Words (words : List (List ℕ)) (command : Command) : Type 0 where
+  pub words_are : words ≡ words_of command
+  pub files : AreFileWords (files_of command)
 
 -- the words of none
 abbrev pub IsNoCommand : List (List ℕ) → Type 0
@@ -47,8 +61,8 @@ IsNoCommand words = (command : Command) → ¬ Words words command
 
 -- whatever command the words are, it reads no file by its name
 abbrev pub NameNoFile : List (List ℕ) → Type 0
-NameNoFile words = (command : Command) → Words words command → is_input (file_of command) ≡ true
+NameNoFile words = (command : Command) → Words words command → has_no_name (files_of command) ≡ true
 
 -- whatever command the words are, it does not read standard input
 abbrev pub NameNoInput : List (List ℕ) → Type 0
-NameNoInput words = (command : Command) → Words words command → is_input (file_of command) ≡ false
+NameNoInput words = (command : Command) → Words words command → has_input (files_of command) ≡ false

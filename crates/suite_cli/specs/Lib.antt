@@ -3,5 +3,9 @@ pub mod FirstForm
 pub mod Messages
 pub mod Names
 pub mod Pieces
+pub mod Worlds
 pub mod Reads
+pub mod ClanPromise
+pub mod ScopPromise
+pub mod Promises
 pub mod Answers

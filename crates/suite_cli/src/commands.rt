@@ -1,6 +1,6 @@
 //! What the program's words ask for.
 
-ghost use Rattle.std.specs.Prelude.{◌≡◌, ◌≢◌, ◌∷◌, [], true, length, MatchOption};
+ghost use Rattle.std.specs.Prelude.{◌≡◌, ◌≢◌, ◌<◌, ◌∷◌, [], true, length, slice_get, Some, None, MatchOption, OnSome};
 ghost use Rattle.suite_cli.specs.Commands as spec;
 
 use crate::file_words::is_file_word;
@@ -16,15 +16,27 @@ pub enum Work<'a> {
 }
 
 impl<'a> Work<'a> {
-    /// The word of the file that is read.
-    pub fn file(&self) -> &'a str
-        ensures { result.now ≡ spec.file_of (spec.command_of self.now) }
+    /// The word of the file at place `k`, from 0, in the order of the words; `None` exactly where
+    /// the work reads no such file. No work reads more than two.
+    pub fn file(&self, k: usize) -> Option<&'a str>
+        ensures word { let files = spec.files_of (spec.command_of self.now) in
+            MatchOption result (slice_get files k ≡ None) (λ file. slice_get files k ≡ Some file.now) }
+        ensures few { OnSome result (k < 2) }
     {
         match self {
-            Work::Clan(file) => file,
-            Work::Scop(file) => file,
+            Work::Clan(file) => one_file(file, k),
+            Work::Scop(file) => one_file(file, k),
         }
     }
+}
+
+/// The word at place `k` of the list of this one word.
+fn one_file(file: &str, k: usize) -> Option<&str>
+    ensures word { let files = file.now ∷ [] in
+        MatchOption result (slice_get files k ≡ None) (λ found. slice_get files k ≡ Some found.now) }
+    ensures few { OnSome result (k < 2) }
+{
+    if k == 0 { Some(file) } else { None }
 }
 
 /// The work that these words ask for; `None` exactly where they ask for none. No memory is taken.
@@ -62,7 +74,8 @@ fn two_words(words: &WordList) -> Option<(&str, &str)>
 /// The work of this command on this file; `None` exactly where it is no command.
 fn named_work<'a>(command: &str, file: &'a str) -> Option<Work<'a>>
     requires { spec.is_file_word file.now ≡ true }
-    ensures { MatchOption result (spec.IsNoCommand (command.now ∷ (file.now ∷ []))) (λ work. spec.Words (command.now ∷ (file.now ∷ [])) (spec.command_of work)) }
+    ensures { let words = command.now ∷ (file.now ∷ []) in
+        MatchOption result (spec.IsNoCommand words) (λ work. spec.Words words (spec.command_of work)) }
 {
     if command == "clan" {
         Some(Work::Clan(file))

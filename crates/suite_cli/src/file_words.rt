@@ -1,10 +1,9 @@
 //! Words that name files: `-` is standard input, another is the name of a file.
 
-ghost use Rattle.std.specs.Prelude.{◌≡◌, ◌<◌, ◌≤◌, true, false, length, IfOk, IfErr};
-ghost use Rattle.suite_base.specs.Limits.{max_input};
-ghost use Rattle.suite_base.specs.Outside.{Took};
+ghost use Rattle.std.specs.Prelude.{◌≡◌, ◌≤◌, true, false, IfOk, IfErr};
 ghost use Rattle.suite_cli.specs.Commands as spec;
 ghost use Rattle.suite_cli.specs.Reads as reads;
+ghost use Rattle.suite_cli.specs.Worlds.{inputs_of};
 
 use std::alloc::Global;
 use suite_base::{Files, ReadFail, Source, Text, read_all, read_file};
@@ -31,21 +30,24 @@ pub fn is_file_word(word: &str) -> bool
 
 /// Reads what the word names to its end: standard input under `-`, else the file of this name.
 /// `Fault` comes only by a counted fault of the one that is read, or where the files are told and none
-/// has the name; `TooLong` where there are more than 16,777,216 bytes.
+/// has the name; `TooLong` where there are more bytes than [`MAX_INPUT`](suite_base::MAX_INPUT).
 pub fn read_named<F: Files, I: Source>(
     alloc: Global,
     file: &str,
     files: &mut F,
     input: &mut I,
 ) -> Result<Text, ReadFail>
-    ensures whole { IfOk result (λ text. reads.Named (F.held files.old) (I.left input.old) file.now (λ bytes. text ≡ bytes)) }
-    ensures took { IfOk result (λ text. spec.is_input file.now ≡ true → Took (I.left input.old) text (I.left input.new)) }
-    ensures short { IfOk result (λ text. length text ≤ max_input) }
-    ensures fault { IfErr result (λ fail. fail ≡ ReadFail.Fault → reads.FaultCause (F.held files.old) (record { before = F.faults files.old; now = F.faults files.new }) (record { before = I.faults input.old; now = I.faults input.new }) file.now) }
-    ensures long { IfErr result (λ fail. fail ≡ ReadFail.TooLong → reads.Named (F.held files.old) (I.left input.old) file.now (λ bytes. max_input < length bytes)) }
+    ensures read { let before = inputs_of F.Files I.Source files.old input.old in
+        let now = inputs_of F.Files I.Source files.new input.new in
+        IfOk result (λ text. reads.ReadWhole before now file.now text) }
+    ensures cause { let before = inputs_of F.Files I.Source files.old input.old in
+        let now = inputs_of F.Files I.Source files.new input.new in
+        IfErr result (λ fail. reads.FailCause before now fail file.now) }
     ensures held { F.held files.new ≡ F.held files.old }
     ensures untouched { spec.is_input file.now ≡ true → files.new ≡ files.old }
-    ensures unread { spec.is_input file.now ≡ false → I.left input.new ≡ I.left input.old }
+    ensures unread { spec.is_input file.now ≡ false → input.new ≡ input.old }
+    ensures opening { F.faults files.old ≤ F.faults files.new }
+    ensures reading { I.faults input.old ≤ I.faults input.new }
 {
     if is_input(file) {
         read_all(alloc, input)

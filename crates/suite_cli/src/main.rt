@@ -13,6 +13,7 @@ mod first_form;
 mod messages;
 mod names;
 mod outcomes;
+mod readings;
 mod runs;
 #[cfg(test)]
 mod scop_tests;

@@ -1,23 +1,25 @@
 //! The run of one command, without its message.
 
-ghost use Rattle.std.specs.Prelude.{◌≡◌, ◌≤◌, IfOk, IfErr, length, true, false, Some};
-ghost use Rattle.scop_reader.specs.Texts.{fault};
+ghost use Rattle.std.specs.Prelude.{◌≡◌, ◌≤◌, All, IfOk, IfErr, [], ◌∷◌, length, true, false};
 ghost use Rattle.suite_base.specs.Limits.{max_input};
-ghost use Rattle.suite_cli.specs.FirstForm.{IsRefusal};
 ghost use Rattle.suite_cli.specs.Answers as spec;
+ghost use Rattle.suite_cli.specs.ClanPromise as clan;
 ghost use Rattle.suite_cli.specs.Commands as command;
+ghost use Rattle.suite_cli.specs.Promises as promise;
+ghost use Rattle.suite_cli.specs.ScopPromise as scop;
+ghost use Rattle.suite_cli.specs.Worlds.{world_of};
 
 use crate::commands::{Work, read_words};
-use crate::file_words::read_named;
 use crate::first_form::read_first_form;
 use crate::outcomes::Outcome;
+use crate::readings::read_files;
 use crate::translations::translation;
 use scop_reader::read_scop;
 use scop_writer::print_scop;
 use std::alloc::Global;
-use suite_base::{Fail, Files, ReadFail, Refusal, Sink, Source, Text, WordList, write_all};
+use suite_base::{Fail, Files, Sink, Source, Text, WordList, write_all};
 
-/// Does the work that the words ask for: reads its file, builds the whole output, and writes it.
+/// Does the work that the words ask for: reads its files, builds the whole output, and writes it.
 pub fn run<F: Files, I: Source, O: Sink>(
     alloc: Global,
     words: &WordList,
@@ -25,9 +27,11 @@ pub fn run<F: Files, I: Source, O: Sink>(
     input: &mut I,
     out: &mut O,
 ) -> Outcome
-    ensures answers { spec.Answers words.now (record { held = F.held files.old; opening = F.faults files.old; left = I.left input.old; reading = I.faults input.old; written = O.written out.old; writing = O.faults out.old }) (record { held = F.held files.new; opening = F.faults files.new; left = I.left input.new; reading = I.faults input.new; written = O.written out.new; writing = O.faults out.new }) result }
+    ensures answers { let before = world_of F.Files I.Source O.Sink files.old input.old out.old in
+        let now = world_of F.Files I.Source O.Sink files.new input.new out.new in
+        spec.Answers words.now before now result }
     ensures untouched { command.NameNoFile words.now → files.new ≡ files.old }
-    ensures unread { command.NameNoInput words.now → I.left input.new ≡ I.left input.old }
+    ensures unread { command.NameNoInput words.now → input.new ≡ input.old }
     ensures held { F.held files.new ≡ F.held files.old }
 {
     match read_words(words) {
@@ -44,21 +48,20 @@ fn run_work<F: Files, I: Source, O: Sink>(
     input: &mut I,
     out: &mut O,
 ) -> Outcome
-    ensures answers { spec.CommandAnswers (command.command_of work.now) (record { held = F.held files.old; opening = F.faults files.old; left = I.left input.old; reading = I.faults input.old; written = O.written out.old; writing = O.faults out.old }) (record { held = F.held files.new; opening = F.faults files.new; left = I.left input.new; reading = I.faults input.new; written = O.written out.new; writing = O.faults out.new }) result }
-    ensures untouched { command.is_input (command.file_of (command.command_of work.now)) ≡ true → files.new ≡ files.old }
-    ensures unread { command.is_input (command.file_of (command.command_of work.now)) ≡ false → I.left input.new ≡ I.left input.old }
+    requires { command.AreFileWords (command.files_of (command.command_of work.now)) }
+    ensures answers { let before = world_of F.Files I.Source O.Sink files.old input.old out.old in
+        let now = world_of F.Files I.Source O.Sink files.new input.new out.new in
+        spec.CommandAnswers (command.command_of work.now) before now result }
+    ensures untouched { let named = command.files_of (command.command_of work.now) in
+        command.has_no_name named ≡ true → files.new ≡ files.old }
+    ensures unread { let named = command.files_of (command.command_of work.now) in
+        command.has_input named ≡ false → input.new ≡ input.old }
     ensures held { F.held files.new ≡ F.held files.old }
 {
-    match read_named(alloc, work.file(), files, input) {
-        Err(ReadFail::Memory) => Outcome::Memory,
-        Err(ReadFail::Fault) => Outcome::ReadFault,
-        Err(ReadFail::TooLong) => Outcome::Refused {
-            file: 1,
-            refusal: Refusal::TooLong,
-        },
-        Ok(text) => match output_of(alloc, work, text.bytes()) {
-            Err(Fail::Memory) => Outcome::Memory,
-            Err(Fail::Refused(refusal)) => Outcome::Refused { file: 1, refusal },
+    match read_files(alloc, work, files, input) {
+        Err(unread) => unread,
+        Ok(texts) => match output_of(alloc, work, texts.as_slice()) {
+            Err(refused) => refused,
             Ok(output) => match write_all(out, output.bytes()) {
                 Ok(()) => Outcome::Done,
                 Err(_) => Outcome::WriteFault,
@@ -67,22 +70,42 @@ fn run_work<F: Files, I: Source, O: Sink>(
     }
 }
 
-/// The output that the work makes of a text.
-fn output_of(alloc: Global, work: &Work<'_>, bytes: &[u8]) -> Result<Text, Fail>
-    requires short { length bytes.now ≤ max_input }
-    ensures ok { IfOk result (λ output. spec.Makes (command.command_of work.now) bytes.now output) }
-    ensures err { IfErr result (λ fail. spec.FailCause (spec.Refuses (command.command_of work.now) bytes.now) fail) }
+/// The output that the work makes of the texts of its files, or the outcome of the run without it.
+fn output_of(alloc: Global, work: &Work<'_>, texts: &[Text]) -> Result<Text, Outcome>
+    requires many { length texts.now ≡ length (command.files_of (command.command_of work.now)) }
+    requires short { All (λ text. length text ≤ max_input) texts.now }
+    ensures ok { IfOk result (λ output. promise.Makes (command.command_of work.now) texts.now output) }
+    ensures err { IfErr result (promise.StopCause (command.command_of work.now) texts.now) }
 {
     match work {
-        Work::Clan(_) => translated(alloc, bytes),
-        Work::Scop(_) => printed(alloc, bytes),
+        Work::Clan(_) => made_of(1, translated(alloc, only(texts))),
+        Work::Scop(_) => made_of(1, printed(alloc, only(texts))),
+    }
+}
+
+/// The bytes of the one text.
+fn only(texts: &[Text]) -> &[u8]
+    requires { length texts.now ≡ 1 }
+    ensures { texts.now ≡ result.now ∷ [] }
+{
+    texts[0].bytes()
+}
+
+/// The output, or the outcome of a failure of the work on the file at this place, from 1.
+fn made_of(file: u8, made: Result<Text, Fail>) -> Result<Text, Outcome>
+    ensures { result ≡ promise.made_of file made }
+{
+    match made {
+        Ok(output) => Ok(output),
+        Err(Fail::Memory) => Err(Outcome::Memory),
+        Err(Fail::Refused(refusal)) => Err(Outcome::Refused { file, refusal }),
     }
 }
 
 /// The SCoP of a text's region, as it is printed.
 fn translated(alloc: Global, bytes: &[u8]) -> Result<Text, Fail>
-    ensures ok { IfOk result (λ output. spec.Translates bytes.now output) }
-    ensures err { IfErr result (λ fail. spec.FailCause (IsRefusal bytes.now) fail) }
+    ensures ok { IfOk result (λ output. clan.Makes bytes.now output) }
+    ensures err { IfErr result (promise.FailCause (clan.Refuses bytes.now)) }
 {
     match read_first_form(bytes) {
         Err(refusal) => Err(Fail::Refused(refusal)),
@@ -99,8 +122,8 @@ fn translated(alloc: Global, bytes: &[u8]) -> Result<Text, Fail>
 /// The SCoP of a text, as it is printed.
 fn printed(alloc: Global, bytes: &[u8]) -> Result<Text, Fail>
     requires short { length bytes.now ≤ max_input }
-    ensures ok { IfOk result (λ output. spec.Prints bytes.now output) }
-    ensures err { IfErr result (λ fail. spec.FailCause (λ refusal. fault bytes.now ≡ Some refusal) fail) }
+    ensures ok { IfOk result (λ output. scop.Makes bytes.now output) }
+    ensures err { IfErr result (promise.FailCause (scop.Refuses bytes.now)) }
 {
     match read_scop(alloc, bytes) {
         Err(Fail::Memory) => Err(Fail::Memory),

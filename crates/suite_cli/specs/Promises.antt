@@ -1,0 +1,47 @@
+-- What each command promises of the texts of its files, which stand in the order of their words.
+use Rattle.std.specs.Prelude.{◌≡◌, ℕ, List, [], ◌∷◌, Result, Ok, Err}
+use Rattle.suite_base.specs.declared.refusals.Fail.{Fail}
+use Rattle.suite_base.specs.declared.refusals.Fail.TheVariants as fail
+use Rattle.suite_base.specs.declared.refusals.Refusal.{Refusal}
+use Rattle.suite_cli.specs.declared.outcomes.Outcome.{Outcome}
+use Rattle.suite_cli.specs.declared.outcomes.Outcome.TheVariants.{Memory, Refused}
+use Rattle.suite_cli.specs.Commands.{Command, Clan, Scop}
+use Rattle.suite_cli.specs.ClanPromise as clan
+use Rattle.suite_cli.specs.ScopPromise as scop
+
+-- there is one text, and P holds of it
+abbrev pub OfOne : (List ℕ → Type 0) → List (List ℕ) → Type 0
+OfOne P (text ∷ []) = P text
+OfOne P texts = ⊥
+
+-- the command makes this output of these texts
+abbrev pub Makes : Command → List (List ℕ) → List ℕ → Type 0
+Makes (Clan file) texts output = OfOne (λ text. clan.Makes text output) texts
+Makes (Scop file) texts output = OfOne (λ text. scop.Makes text output) texts
+
+-- the command takes these texts
+abbrev pub Takes : Command → List (List ℕ) → Type 0
+Takes (Clan file) texts = OfOne clan.Takes texts
+Takes (Scop file) texts = OfOne scop.Takes texts
+
+-- the command refuses these texts so; the refusal speaks of the file at this place, from 1, or of none at 0
+abbrev pub Refuses : Command → List (List ℕ) → ℕ → Refusal → Type 0
+Refuses (Clan file) texts place refusal = (place ≡ 1) × OfOne (λ text. clan.Refuses text refusal) texts
+Refuses (Scop file) texts place refusal = (place ≡ 1) × OfOne (λ text. scop.Refuses text refusal) texts
+
+-- where a failure is a refusal, P holds of it
+abbrev pub FailCause : (Refusal → Type 0) → Fail → Type 0
+FailCause P fail.Memory = Unit {0}
+FailCause P (fail.Refused refusal) = P refusal
+
+-- why the command made no output: memory was wanting, or it refuses the texts so
+abbrev pub StopCause : Command → List (List ℕ) → Outcome → Type 0
+StopCause command texts Memory = Unit {0}
+StopCause command texts (Refused place refusal) = Refuses command texts place refusal
+StopCause command texts outcome = ⊥
+
+-- the output, or the outcome of a failure of the work on the file at this place
+abbrev pub made_of : ℕ → Result (List ℕ) Fail → Result (List ℕ) Outcome
+made_of place (Ok output) = Ok output
+made_of place (Err fail.Memory) = Err Memory
+made_of place (Err (fail.Refused refusal)) = Err (Refused place refusal)
