@@ -1,5 +1,5 @@
 -- What a run tells is what its outcome asks.
-use Rattle.std.proofs.Common.{◌≡◌, ◌⊎◌, inl, inr, ℕ, ◌<◌, ◌≤◌, List, [], ◌∷◌, ◌++◌, Option, Some, None, IfSome, IsSomeAnd, Result, Ok, Err, OnOk, OnErr, length, refl, ap, ◌∙◌, subst, arith}
+use Rattle.std.proofs.Common.{◌≡◌, ◌⊎◌, inl, inr, ℕ, ◌<◌, ◌≤◌, List, [], ◌∷◌, ◌++◌, Option, Some, None, IfSome, IsSomeAnd, Result, Ok, Err, OnOk, OnErr, length, refl, ap, sym, ◌∙◌, subst, arith}
 use Rattle.std.proofs.lemmas.List.{append-nil}
 use Rattle.suite_base.specs.Outside.{IsMissing, Under, Wrote, WrotePart}
 use Rattle.suite_base.specs.Limits.{max_input}
@@ -7,8 +7,10 @@ use Rattle.suite_base.specs.declared.refusals.Refusal.{Refusal}
 use Rattle.suite_base.specs.declared.refusals.Refusal.TheVariants.{NoRegion, OutsideFirstPath, TooLong}
 use Rattle.scop_core.specs.ScopData.{ScopData}
 use Rattle.scop_core.specs.Layouts.{layout}
+use Rattle.scop_core.specs.Validity.{IsValid}
 use Rattle.scop_reader.specs.Texts.{IsScopText, fault}
 use Rattle.scop_reader.proofs.FaultPieces.{fault_is_not_too_long_law}
+use Rattle.scop_reader.proofs.GrammarReadBack.{layout_reads_back_law}
 use Rattle.clan_extract.proofs.OneLoops.{one_loop_means, one_loop_names}
 use Rattle.suite_cli.specs.declared.outcomes.Outcome.{Outcome}
 use Rattle.suite_cli.specs.declared.outcomes.Outcome.TheVariants.{Done, Refused, Usage, ReadFault, WriteFault, Memory}
@@ -39,15 +41,24 @@ words_in (Some frame) l h = record {
 pub are_words : (bytes : List ℕ) (l : LoopWords) → IsFirstForm bytes l → AreWords l
 are_words bytes l f = words_in (frame_of (content_lines bytes)) l f.framed
 
+-- a valid SCoP's layout is a text of it
+stands : (output : List ℕ) (S : ScopData) → IsValid S → output ≡ layout S → IsScopText output S
+stands output S valid e = let P : List ℕ → Type 0 = λ bytes. IsScopText bytes S in subst P (sym e) (layout_reads_back_law S valid)
+
 -- the layout of its SCoP translates a loop
-pub translates : (text output : List ℕ) (S : ScopData) (l : LoopWords) → IsLoopText text l → output ≡ layout S → S ≡ scop_of l → clan.Makes text output
-translates text output S l loop e s = record {
+pub translates : (text output : List ℕ) (S : ScopData) (l : LoopWords) → IsLoopText text l → IsValid S → output ≡ layout S → S ≡ scop_of l → clan.Makes text output
+translates text output S l loop valid e s = record {
   words = l;
   loop = loop;
   layout_is = e ∙ ap layout s;
+  stands = subst (IsScopText output) s (stands output S valid e);
   means = one_loop_means (loop_of l);
   names = one_loop_names (loop_of l);
 }
+
+-- the layout of a SCoP that was read prints it
+pub prints : (text output : List ℕ) (S : ScopData) → IsScopText text S → IsValid S → output ≡ layout S → scop.Makes text output
+prints text output S t valid e = record { scop = S; read = t; layout_is = e; stands = stands output S valid e }
 
 -- ---- what is told
 

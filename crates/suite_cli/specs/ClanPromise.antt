@@ -3,6 +3,7 @@ use Rattle.std.specs.Prelude.{◌≡◌, ℕ, true, List}
 use Rattle.suite_base.specs.declared.refusals.Refusal.{Refusal}
 use Rattle.scop_core.specs.ScopData.{ScopData}
 use Rattle.scop_core.specs.Layouts.{layout}
+use Rattle.scop_reader.specs.Texts.{IsScopText}
 use Rattle.clan_extract.specs.Regions.{Nodes}
 use Rattle.clan_extract.specs.Translation.{Means, HasNamesOf, one_loop_region, one_loop_scop}
 use Rattle.suite_cli.specs.FirstForm.{IsFirstForm, IsRefusal, LoopWords, has_scop_line, loop_of}
@@ -19,12 +20,14 @@ pub record IsLoopText (text : List ℕ) (words : LoopWords) : Type 0 where
   pub opened : has_scop_line text ≡ true
   pub form : IsFirstForm text words
 
--- the output is the layout of a SCoP that translates the text's loop: for every value of the parameter it has a run,
--- whose final memory is the memory after the region; its arrays are numbered by their first occurrence in the region
+-- the output is the layout of a SCoP that translates the text's loop, and a text of that SCoP: for every value of the
+-- parameter it has a run, whose final memory is the memory after the region; its arrays are numbered by their first
+-- occurrence in the region
 pub record Makes (text output : List ℕ) : Type 0 where
   pub words : LoopWords
   pub loop : IsLoopText text words
   pub layout_is : output ≡ layout (scop_of words)
+  pub stands : IsScopText output (scop_of words)
   pub means : Means (scop_of words) (region_of words)
   pub names : HasNamesOf (scop_of words) (region_of words)
 

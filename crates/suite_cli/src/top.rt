@@ -17,9 +17,9 @@ use suite_base::{Files, Sink, Source, WordList};
 /// At `Done` under `clan` the file was the text of one loop, the layout of a SCoP was appended to
 /// `out`, and for every value of the parameter that SCoP has a run whose final memory is the memory
 /// after the C region; under `scop` the file was a text of a SCoP, and its layout was appended. What
-/// every other outcome tells is said by `Answers`; want of memory is the one free answer. `files` is as
-/// before where no file is named but standard input, and what it holds always is; `input` is as before
-/// where standard input is not named.
+/// was appended is a text of that SCoP. What every other outcome tells is said by `Answers`; want of
+/// memory is the one free answer. `files` is as before where no file is named but standard input, and
+/// what it holds always is; `input` is as before where standard input is not named.
 pub fn suite<F: Files, I: Source, O: Sink, E: Sink>(
     alloc: Global,
     words: &WordList,
