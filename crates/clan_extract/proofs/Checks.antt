@@ -9,7 +9,7 @@ use Rattle.clan_extract.specs.Translation.{OneLoop, one_loop_region, one_loop_sc
 use Rattle.clan_extract.proofs.OneLoops.{instance_at, instances_at}
 
 -- for (i = 1; i < N; i++) A[i] = 0;
-abbrev sample : OneLoop
+abbrev pub sample : OneLoop
 sample = record { iterator = codes "i"; start = 1; parameter = codes "N"; array = codes "A"; text = codes "A[i] = 0;" }
 
 up_by_three : loop_values IsLess (pos 1) (pos 9) (pos 3) ≡ pos 1 ∷ (pos 4 ∷ (pos 7 ∷ []))

@@ -117,7 +117,7 @@ module _ (l : OneLoop) (N : ℤ) where
       turns vs (step (one_loop_scop l) (N ∷ []) (instance_at v) m)
       ∙ ap (λ k. fold_steps (λ v k. run_nodes (setting_of (one_loop_region l) (N ∷ [])) (record { name = l.iterator; value = v } ∷ []) (one_loop_body l) k) vs k) (turn v m)
 
-  runs_as : RunsAs (one_loop_scop l) (one_loop_region l) (N ∷ [])
+  runs_as : RunsAs (one_loop_scop l) (setting_of (one_loop_region l) (N ∷ [])) (one_loop_region l)
   runs_as =
       let vs = loop_values IsLess (pos l.start) N (pos 1) in
       record {

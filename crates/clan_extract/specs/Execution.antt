@@ -5,7 +5,7 @@ use Rattle.std.specs.Ordering.{int_eq}
 use Rattle.scop_core.specs.Sequences.{fold_steps}
 use Rattle.scop_core.specs.Memory.{Cell, App, Memory, initial, stored, terms_at}
 use Rattle.scop_core.specs.Meaning.{floor_of}
-use Rattle.clan_extract.specs.Regions.{Expression, Number, Name, Sum, Difference, Product, Negation, Maximum, Minimum, Ceiling, Floor, Remainder, Comparison, IsLess, IsLessOrEqual, IsGreater, IsGreaterOrEqual, IsEqual, IsUnequal, Condition, Compare, Both, Either, Opposite, Reference, Assignment, Node, For, If, Assign, Nodes, NoNodes, Then, parameters_of, arrays_of, array_references, number_in}
+use Rattle.clan_extract.specs.Regions.{Expression, Number, Name, Sum, Difference, Product, Negation, Maximum, Minimum, Ceiling, Floor, Remainder, Comparison, IsLess, IsLessOrEqual, IsGreater, IsGreaterOrEqual, IsEqual, IsUnequal, Condition, Compare, Both, Either, Opposite, Reference, Assignment, Node, For, If, Block, Assign, Nodes, NoNodes, Then, parameters_of, arrays_of, array_references, number_in}
 
 -- a loop that is running: its name and the value that it has now
 pub record Binding : Type 0 where
@@ -97,6 +97,7 @@ abbrev mutual
       (loop_values comparison (value_of setting loops start) (value_of setting loops bound) step) m
   run_node setting loops (If condition then_nodes else_nodes) m =
       cond (truth_of setting loops condition) (run_nodes setting loops then_nodes m) (run_nodes setting loops else_nodes m)
+  run_node setting loops (Block nodes) m = run_nodes setting loops nodes m
   run_node setting loops (Assign a) m = assigned setting loops a m
 
   pub run_nodes : Setting → List Binding → Nodes → Memory → Memory

@@ -1,3 +1,7 @@
 pub mod Regions
 pub mod Execution
 pub mod Translation
+pub mod Forms
+pub mod Placements
+pub mod Constraints
+pub mod Scops

@@ -44,12 +44,13 @@ pub record Assignment : Type 0 where
   pub updates : Bool
   pub right : List Reference
 
--- a statement, and a list of statements; a block is its list, an empty statement and a missing branch are the list without any.
+-- a statement, and a list of statements; an empty statement is a block without any, a missing branch the list without any.
 -- The step of a loop is negative for a downward one
 mutual
   pub data Node : Type 0 where
     For : (name : List ℕ) → (start : Expression) → (comparison : Comparison) → (bound : Expression) → (step : ℤ) → (body : Nodes) → Node
     If : (condition : Condition) → (then_nodes : Nodes) → (else_nodes : Nodes) → Node
+    Block : (nodes : Nodes) → Node
     Assign : (assignment : Assignment) → Node
 
   pub data Nodes : Type 0 where
@@ -119,6 +120,7 @@ abbrev mutual
   pub parameter_names : List (List ℕ) → List (List ℕ) → Node → List (List ℕ)
   parameter_names known scope (For name start comparison bound step body) = outside scope (names_in start ++ names_in bound) ++ parameter_names_of_all known (name ∷ scope) body
   parameter_names known scope (If condition then_nodes else_nodes) = outside scope (names_in_condition condition) ++ (parameter_names_of_all known scope then_nodes ++ parameter_names_of_all known scope else_nodes)
+  parameter_names known scope (Block nodes) = parameter_names_of_all known scope nodes
   parameter_names known scope (Assign a) = outside scope (names_in_all a.target.subscripts ++ names_in_right known a.right)
 
   pub parameter_names_of_all : List (List ℕ) → List (List ℕ) → Nodes → List (List ℕ)
@@ -142,6 +144,7 @@ abbrev mutual
   pub array_names : List (List ℕ) → List (List ℕ) → Node → List (List ℕ)
   array_names parameters scope (For name start comparison bound step body) = array_names_of_all parameters (name ∷ scope) body
   array_names parameters scope (If condition then_nodes else_nodes) = array_names_of_all parameters scope then_nodes ++ array_names_of_all parameters scope else_nodes
+  array_names parameters scope (Block nodes) = array_names_of_all parameters scope nodes
   array_names parameters scope (Assign a) = a.target.name ∷ map (λ r. r.name) (array_references parameters scope a.right)
 
   pub array_names_of_all : List (List ℕ) → List (List ℕ) → Nodes → List (List ℕ)

@@ -8,20 +8,20 @@ use Rattle.scop_core.specs.declared.accesses.AccessKind.TheVariants.{Write}
 use Rattle.scop_core.specs.declared.schedules.Schedule.{Schedule}
 use Rattle.scop_core.specs.declared.statements.Statement.{Statement}
 use Rattle.scop_core.specs.ScopData.{ScopData}
-use Rattle.scop_core.specs.Memory.{Agree}
+use Rattle.scop_core.specs.Memory.{Agree, initial}
 use Rattle.scop_core.specs.Meaning.{Instance, Run, final}
 use Rattle.clan_extract.specs.Regions.{Number, Name, IsLess, For, Assign, Nodes, NoNodes, Then, parameters_of, arrays_of, numbered}
-use Rattle.clan_extract.specs.Execution.{memory_after_region}
+use Rattle.clan_extract.specs.Execution.{Setting, setting_of, run_nodes}
 
--- S has a run at n whose final memory is the memory after the region
-pub record RunsAs (S : ScopData) (region : Nodes) (n : List ℤ) : Type 0 where
+-- S has a run at the values of the parameters, whose final memory is the memory after the region
+pub record RunsAs (S : ScopData) (setting : Setting) (region : Nodes) : Type 0 where
   pub run : List Instance
-  pub is_run : Run S n run
-  pub same_memory : Agree (final S n run) (memory_after_region region n)
+  pub is_run : Run S setting.values run
+  pub same_memory : Agree (final S setting.values run) (run_nodes setting [] region initial)
 
 -- S means what the region means: so it is for all values of the parameters
 abbrev pub Means : ScopData → Nodes → Type 0
-Means S region = (n : List ℤ) → length n ≡ length (parameters_of region) → RunsAs S region n
+Means S region = (n : List ℤ) → length n ≡ length (parameters_of region) → RunsAs S (setting_of region n) region
 
 -- the names X, P, A and the start C of for (X = C; X < P; X++) A[X] = D; and the text of its assignment
 pub record OneLoop : Type 0 where
