@@ -123,12 +123,12 @@ module _ (setting : Setting) (loops : List Binding) (v : ℤ) (more : List ℤ) 
   with_iterator_at f c z e = omega (arith, ints, dot_with f.iterators (values loops) c v more (e ∙ length_names loops))
 
   -- the rows of lower bounds
-  opposite_has : (e : Expression) (c z : ℤ) → is_affine e ≡ true → at (with_iterator c (opposite_of (of e)) z) ≡ (neg_ℤ (value_of setting loops e) +ℤ z) +ℤ (c *ℤ v)
+  pub opposite_has : (e : Expression) (c z : ℤ) → is_affine e ≡ true → at (with_iterator c (opposite_of (of e)) z) ≡ (neg_ℤ (value_of setting loops e) +ℤ z) +ℤ (c *ℤ v)
   opposite_has e c z h =
       let same = length_scale (negsuc 0) (of e).iterators ∙ length_form setting.parameters (names loops) e in
       omega (arith, ints, with_iterator_at (opposite_of (of e)) c z same, opposite_at (of e) (values loops ++ v ∷ more) setting.values, form_has setting loops (v ∷ more) e h)
 
-  itself_has : (e : Expression) (c z : ℤ) → is_affine e ≡ true → at (with_iterator c (of e) z) ≡ (value_of setting loops e +ℤ z) +ℤ (c *ℤ v)
+  pub itself_has : (e : Expression) (c z : ℤ) → is_affine e ≡ true → at (with_iterator c (of e) z) ≡ (value_of setting loops e +ℤ z) +ℤ (c *ℤ v)
   itself_has e c z h = omega (arith, ints, with_iterator_at (of e) c z (length_form setting.parameters (names loops) e), form_has setting loops (v ∷ more) e h)
 
   module _ (s l : ℤ) where

@@ -3,5 +3,7 @@ pub mod OneLoops
 pub mod Forms
 pub mod Holding
 pub mod Bounds
+pub mod Turns
+pub mod Conditions
 mod Checks
 mod ScopChecks
