@@ -116,7 +116,7 @@ module _ (v : ℤ) (d : ℕ) (h : 1 ≤ d) where
         let times : (pos d *ℤ quotient) ≤ℤ (pos d *ℤ l) = mul_le_z (pos d) quotient l (omega (arith, ints)) most in
         omega (arith, ints, e, parts_are)))
 
-either : {A B C D : Type 0} → (A → C) → (B → D) → A ⊎ B → C ⊎ D
+pub either : {A B C D : Type 0} → (A → C) → (B → D) → A ⊎ B → C ⊎ D
 either f g (inl a) = inl (f a)
 either f g (inr b) = inr (g b)
 

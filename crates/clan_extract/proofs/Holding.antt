@@ -1,5 +1,5 @@
 -- Where rows, constraints and parts hold.
-use Rattle.std.proofs.Common.{◌⊎◌, inl, inr, List, [], ◌∷◌, ◌++◌, ℤ, pos, ◌+ℤ◌, ◌*ℤ◌, true, false}
+use Rattle.std.proofs.Common.{◌⊎◌, inl, inr, List, [], ◌∷◌, ◌++◌, ℤ, pos, ◌+ℤ◌, ◌*ℤ◌, Bool, true, false}
 use Rattle.std.specs.Prelude.{◌↔◌}
 use Rattle.relation_core.specs.Points.{Meets}
 use Rattle.scop_core.specs.Meaning.{affine_at}
@@ -10,9 +10,14 @@ abbrev pub RowsHold : List FormRow → ℤ → List ℤ → List ℤ → Type 0
 RowsHold [] l x n = Unit {0}
 RowsHold (r ∷ rs) l x n = Meets r.kind (affine_at r.form x [] n +ℤ (r.local *ℤ l)) × RowsHold rs l x n
 
--- the constraint holds: with some local, where it has one
+-- the rows hold: with some local, where they have one
+abbrev pub HoldsBy : Bool → List FormRow → List ℤ → List ℤ → Type 0
+HoldsBy true rows x n = (l : ℤ) × RowsHold rows l x n
+HoldsBy false rows x n = RowsHold rows (pos 0) x n
+
+-- the constraint holds
 abbrev pub Holds : Constraint → List ℤ → List ℤ → Type 0
-Holds c x n = elim c.has_local as (λ _. Type 0) [ true ↦ (l : ℤ) × RowsHold c.rows l x n | false ↦ RowsHold c.rows (pos 0) x n ]
+Holds c x n = HoldsBy c.has_local c.rows x n
 
 -- all constraints of a part hold
 abbrev pub AllHold : List Constraint → List ℤ → List ℤ → Type 0

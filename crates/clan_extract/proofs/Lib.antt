@@ -5,5 +5,6 @@ pub mod Holding
 pub mod Bounds
 pub mod Turns
 pub mod Conditions
+pub mod PartRows
 mod Checks
 mod ScopChecks
