@@ -6,5 +6,7 @@ pub mod Bounds
 pub mod Turns
 pub mod Conditions
 pub mod PartRows
+pub mod Members
+pub mod Reaching
 mod Checks
 mod ScopChecks
