@@ -8,5 +8,6 @@ pub mod Conditions
 pub mod PartRows
 pub mod Members
 pub mod Reaching
+pub mod Traces
 mod Checks
 mod ScopChecks
