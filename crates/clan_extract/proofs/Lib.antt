@@ -9,5 +9,6 @@ pub mod PartRows
 pub mod Members
 pub mod Reaching
 pub mod Traces
+pub mod TurnOrders
 mod Checks
 mod ScopChecks

@@ -60,10 +60,10 @@ module _ (setting : Setting) where
   found_right : (loops : List Binding) (k : ℕ) (ps qs : List Placed) (t : Turn) → Found setting loops (k + length ps) qs t → Found setting loops k (ps ++ qs) t
   found_right loops k ps qs t h = (numbered_right t.number t.placed k ps qs h.0, h.1)
 
-  abbrev then_turns : List Binding → ℕ → ℕ → Nodes → List Turn
+  abbrev pub then_turns : List Binding → ℕ → ℕ → Nodes → List Turn
   then_turns loops from k then_nodes = trace_all setting loops from k then_nodes
 
-  abbrev else_turns : List Binding → ℕ → ℕ → Nodes → Nodes → List Turn
+  abbrev pub else_turns : List Binding → ℕ → ℕ → Nodes → Nodes → List Turn
   else_turns loops from k then_nodes else_nodes = trace_all setting loops (from + children_of_all then_nodes) (k + length (placed_all from then_nodes)) else_nodes
 
   -- turns are found
