@@ -10,5 +10,6 @@ pub mod Members
 pub mod Reaching
 pub mod Traces
 pub mod TurnOrders
+pub mod TurnSteps
 mod Checks
 mod ScopChecks
