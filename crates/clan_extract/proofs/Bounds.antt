@@ -1,11 +1,11 @@
 -- The rows of a loop's start and bound hold at the values within them.
-use Rattle.std.proofs.Common.{◌≡◌, ◌⊎◌, inl, inr, ℕ, zero, suc, ◌+◌, List, [], ◌∷◌, ◌++◌, length, map, Bool, true, false, ◌&&◌, refl, sym, ◌∙◌, ap, arith, ℤ, pos, negsuc, neg_ℤ, ◌+ℤ◌, ◌-ℤ◌, ◌*ℤ◌, ◌≤ℤ◌, ◌<ℤ◌}
-use Rattle.std.specs.Prelude.{nat_le, int_lt, int_le, ◌↔◌, cond}
+use Rattle.std.proofs.Common.{◌≡◌, ℕ, zero, suc, List, [], ◌∷◌, ◌++◌, length, Bool, true, false, ◌&&◌, refl, ◌∙◌, arith, ℤ, pos, negsuc, neg_ℤ, ◌+ℤ◌, ◌-ℤ◌, ◌*ℤ◌, ◌≤ℤ◌, ◌<ℤ◌}
+use Rattle.std.specs.Prelude.{nat_le, int_lt, ◌↔◌, cond}
 use Rattle.std.specs.Int.{int_max, int_min}
 use Rattle.std.proofs.lemmas.Int.{ints, by_lt_z}
 use Rattle.std.proofs.lemmas.Bool.{leb-true}
 use Rattle.row_core.specs.Rows.{dot, add_rows, scale}
-use Rattle.row_core.proofs.Ring.{mul_add_z, mul_le_z, mul_neg_z, neg_mul_z, cancel_z}
+use Rattle.row_core.proofs.Ring.{mul_add_z, mul_le_z, mul_neg_z, neg_mul_z}
 use Rattle.scop_core.specs.Meaning.{affine_at, floor_of}
 use Rattle.scop_core.proofs.Floors.{floor_greatest, floor_meets_rows}
 use Rattle.scop_core.specs.SolvedRows.{zeros}
@@ -26,11 +26,12 @@ module _ (v d q : ℤ) (h : pos 1 ≤ℤ d) where
   pub at_least_floor : (v <ℤ ((d *ℤ q) +ℤ d)) ↔ (floor_of v d ≤ℤ q)
   at_least_floor =
       let low = (floor_greatest v d h).0 in
-      let high = (floor_meets_rows v d h).1 in
-      (λ l. by_lt_z q (floor_of v d)
-        (λ less. absurd (let m = mul_le_z d (q +ℤ pos 1) (floor_of v d) (omega (arith, ints)) (omega (arith, ints)) in omega (arith, ints, mul_add_z d q (pos 1))))
-        (λ most. most),
-      λ l. (let m = mul_le_z d (floor_of v d) q (omega (arith, ints)) l in omega (arith, ints)))
+      let high = (floor_meets_rows v d h).1 in (
+        λ l. by_lt_z q (floor_of v d)
+            (λ less. absurd (let m = mul_le_z d (q +ℤ pos 1) (floor_of v d) (omega (arith, ints)) (omega (arith, ints)) in omega (arith, ints, mul_add_z d q (pos 1))))
+            (λ most. most),
+        λ l. (let m = mul_le_z d (floor_of v d) q (omega (arith, ints)) l in omega (arith, ints)),
+      )
 
 module _ (v d q : ℤ) (h : pos 1 ≤ℤ d) where
   pub at_least_ceiling : (v ≤ℤ (d *ℤ q)) ↔ (neg_ℤ (floor_of (neg_ℤ v) d) ≤ℤ q)
@@ -161,16 +162,18 @@ module _ (setting : Setting) (loops : List Binding) (v : ℤ) (more : List ℤ) 
       upper_floor : RowsHold (bound_row (neg_ℤ (pos d)) (of e) (neg_ℤ (pos d *ℤ s))) l (values loops ++ v ∷ more) setting.values ↔ ((v +ℤ s) ≤ℤ value_of setting loops (Floor e d))
       upper_floor =
           let is = itself_has e (neg_ℤ (pos d)) (neg_ℤ (pos d *ℤ s)) (both_true (is_affine e) (nat_le 1 d) h).0 in
-          let rule = at_most_floor (value_of setting loops e) (pos d) (v +ℤ s) divisor_is in
-          (λ r. (let t = r.0 in rule.0 (omega (arith, ints, is, mul_add_z (pos d) v s, neg_mul_z (pos d) v))),
-          λ b. (let t = rule.1 b in (omega (arith, ints, is, mul_add_z (pos d) v s, neg_mul_z (pos d) v), tt)))
+          let rule = at_most_floor (value_of setting loops e) (pos d) (v +ℤ s) divisor_is in (
+            λ r. (let t = r.0 in rule.0 (omega (arith, ints, is, mul_add_z (pos d) v s, neg_mul_z (pos d) v))),
+            λ b. (let t = rule.1 b in (omega (arith, ints, is, mul_add_z (pos d) v s, neg_mul_z (pos d) v), tt)),
+          )
 
       upper_ceiling : RowsHold (bound_row (neg_ℤ (pos d)) (of e) (neg_ℤ (pos d *ℤ s) +ℤ (pos d -ℤ pos 1))) l (values loops ++ v ∷ more) setting.values ↔ ((v +ℤ s) ≤ℤ value_of setting loops (Ceiling e d))
       upper_ceiling =
           let is = itself_has e (neg_ℤ (pos d)) (neg_ℤ (pos d *ℤ s) +ℤ (pos d -ℤ pos 1)) (both_true (is_affine e) (nat_le 1 d) h).0 in
-          let rule = at_most_ceiling (value_of setting loops e) (pos d) (v +ℤ s) divisor_is in
-          (λ r. (let t = r.0 in rule.0 (omega (arith, ints, is, mul_add_z (pos d) v s, neg_mul_z (pos d) v))),
-          λ b. (let t = rule.1 b in (omega (arith, ints, is, mul_add_z (pos d) v s, neg_mul_z (pos d) v), tt)))
+          let rule = at_most_ceiling (value_of setting loops e) (pos d) (v +ℤ s) divisor_is in (
+            λ r. (let t = r.0 in rule.0 (omega (arith, ints, is, mul_add_z (pos d) v s, neg_mul_z (pos d) v))),
+            λ b. (let t = rule.1 b in (omega (arith, ints, is, mul_add_z (pos d) v s, neg_mul_z (pos d) v), tt)),
+          )
 
     -- the rows of a lower bound hold where the value is not below it
     pub lower_has : (e : Expression) → is_lower_bound e ≡ true → RowsHold (lower_rows setting.parameters (names loops) s e) l (values loops ++ v ∷ more) setting.values ↔ (value_of setting loops e ≤ℤ (v +ℤ s))

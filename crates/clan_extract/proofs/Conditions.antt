@@ -1,18 +1,18 @@
 -- Some part of a condition holds where the condition has the truth that the parts are for.
-use Rattle.std.proofs.Common.{◌≡◌, ◌⊎◌, inl, inr, ℕ, zero, suc, ◌+◌, ◌<◌, ◌≤◌, List, [], ◌∷◌, ◌++◌, length, map, Bool, true, false, not, ◌&&◌, ◌||◌, cond, refl, sym, ◌∙◌, ap, subst, arith, ℤ, pos, negsuc, neg_ℤ, ◌+ℤ◌, ◌-ℤ◌, ◌*ℤ◌, ◌≤ℤ◌, ◌<ℤ◌}
-use Rattle.std.specs.Prelude.{nat_eq, nat_le, int_lt, int_le, int_rem, int_div, unsigned_abs, flat_map, ◌↔◌}
+use Rattle.std.proofs.Common.{◌≡◌, ◌⊎◌, inl, inr, ℕ, ◌<◌, ◌≤◌, List, [], ◌∷◌, ◌++◌, map, Bool, true, false, not, ◌&&◌, ◌||◌, refl, sym, ◌∙◌, ap, arith, ℤ, pos, negsuc, neg_ℤ, ◌+ℤ◌, ◌-ℤ◌, ◌*ℤ◌, ◌≤ℤ◌, ◌<ℤ◌}
+use Rattle.std.specs.Prelude.{nat_le, int_lt, int_le, int_rem, int_div, unsigned_abs, ◌↔◌}
 use Rattle.std.specs.Ordering.{int_eq}
 use Rattle.std.proofs.lemmas.Int.{ints, quot-rem, rem_below, by_lt_z}
 use Rattle.std.proofs.lemmas.Bool.{eqb-true, leb-true}
 use Rattle.std.proofs.lemmas.Bool.Decides.{Decides-int_eq}
-use Rattle.row_core.proofs.Ring.{add_mul_z, mul_add_z, mul_comm_z, mul_le_z, mul_neg_z, neg_mul_z, cancel_z, less_z}
+use Rattle.row_core.proofs.Ring.{mul_add_z, mul_comm_z, mul_le_z, neg_mul_z, less_z}
 use Rattle.relation_core.specs.declared.part_rows.RowKind.TheVariants.{Equal, AtLeast}
 use Rattle.scop_core.specs.declared.affines.Affine.{Affine}
 use Rattle.scop_core.specs.Meaning.{affine_at}
 use Rattle.clan_extract.specs.Regions.{Expression, Number, Name, Sum, Difference, Product, Negation, Maximum, Minimum, Ceiling, Floor, Remainder, Comparison, IsLess, IsLessOrEqual, IsGreater, IsGreaterOrEqual, IsEqual, IsUnequal, Condition, Compare, Both, Either, Opposite}
 use Rattle.clan_extract.specs.Execution.{Binding, Setting, value_of, compare, truth_of}
 use Rattle.clan_extract.specs.Forms.{is_affine, form, opposite_of}
-use Rattle.clan_extract.specs.Constraints.{Constraint, joined, row_part, comparison_parts, plus, multiple_part, between_part, remainder_parts, opposite_comparison, parts_of_sides, parts_of_condition}
+use Rattle.clan_extract.specs.Constraints.{Constraint, joined, row_part, comparison_parts, multiple_part, between_part, remainder_parts, opposite_comparison, parts_of_sides, parts_of_condition}
 use Rattle.clan_extract.specs.Scops.{is_zero, is_equality, are_sides, is_condition}
 use Rattle.clan_extract.proofs.Forms.{both_true, names, values, opposite_at, difference_at, form_has}
 use Rattle.clan_extract.proofs.Holding.{AllHold, SomeHolds}
@@ -90,31 +90,35 @@ module _ (v : ℤ) (d : ℕ) (h : 1 ≤ d) where
 
   pub zero_rest : (int_rem v (pos d) ≡ pos 0) ↔ ((l : ℤ) × (v ≡ pos d *ℤ l))
   zero_rest = (
-      λ e. (quotient, omega (arith, ints, e, parts_are)),
-      λ p. (
+    λ e. (quotient, omega (arith, ints, e, parts_are)),
+    λ p. (
         let l : ℤ = p.0 in
         let is : v ≡ pos d *ℤ l = p.1 in
         let positive : pos 0 <ℤ pos d = omega (arith, ints) in
         let low : l ≤ℤ quotient = less_z (pos d) l quotient positive (omega (arith, ints, is, parts_are, small)) in
         let high : quotient ≤ℤ l = less_z (pos d) quotient l positive (omega (arith, ints, is, parts_are, small)) in
         let same : l ≡ quotient = omega (arith, ints) in
-        omega (arith, ints, is, parts_are, ap (λ z. pos d *ℤ z) same)))
+        omega (arith, ints, is, parts_are, ap (λ z. pos d *ℤ z) same)),
+  )
 
   pub some_rest : (¬ (int_rem v (pos d) ≡ pos 0)) ↔ ((l : ℤ) × (pos 1 ≤ℤ (v -ℤ (pos d *ℤ l))) × ((v -ℤ (pos d *ℤ l)) ≤ℤ (pos d -ℤ pos 1)))
   some_rest = (
-      λ e. by_lt_z rest (pos 0)
+    λ e. by_lt_z rest (pos 0)
         (λ below. (quotient -ℤ pos 1, omega (arith, ints, parts_are, small, mul_add_z (pos d) quotient (negsuc 0)), omega (arith, ints, parts_are, small, mul_add_z (pos d) quotient (negsuc 0))))
-        (λ above. (quotient,
+        (λ above. (
+          quotient,
           by_lt_z (pos 0) rest (λ some. omega (arith, ints, parts_are, small)) (λ none. absurd (e (omega (arith, ints)))),
-          omega (arith, ints, parts_are, small))),
-      λ p. λ e. (
+          omega (arith, ints, parts_are, small),
+        )),
+    λ p. λ e. (
         let l : ℤ = p.0 in
         let low = p.1 in
         let high = p.2 in
         let positive : pos 0 <ℤ pos d = omega (arith, ints) in
         let most : quotient ≤ℤ l = less_z (pos d) quotient l positive (omega (arith, ints, e, parts_are)) in
         let times : (pos d *ℤ quotient) ≤ℤ (pos d *ℤ l) = mul_le_z (pos d) quotient l (omega (arith, ints)) most in
-        omega (arith, ints, e, parts_are)))
+        omega (arith, ints, e, parts_are)),
+  )
 
 pub either : {A B C D : Type 0} → (A → C) → (B → D) → A ⊎ B → C ⊎ D
 either f g (inl a) = inl (f a)
@@ -263,12 +267,13 @@ module _ (setting : Setting) (loops : List Binding) (more : List ℤ) where
   comparison_has IsEqual f g =
       let part = equal_part f g in
       (λ h. (Decides-int_eq (at f) (at g)).1 (part.0 h), λ h. part.1 ((Decides-int_eq (at f) (at g)).0 h))
-  comparison_has IsUnequal f g =
-      (λ h. (compare_unequal (at f) (at g)).1 (into ((some_append (row_part AtLeast f g (negsuc 0) ∷ []) (row_part AtLeast g f (negsuc 0) ∷ []) (values loops ++ more) setting.values).0 h)),
-      λ h. (let n = (compare_unequal (at f) (at g)).0 h in
+  comparison_has IsUnequal f g = (
+    λ h. (compare_unequal (at f) (at g)).1 (into ((some_append (row_part AtLeast f g (negsuc 0) ∷ []) (row_part AtLeast g f (negsuc 0) ∷ []) (values loops ++ more) setting.values).0 h)),
+    λ h. (let n = (compare_unequal (at f) (at g)).0 h in
         (some_append (row_part AtLeast f g (negsuc 0) ∷ []) (row_part AtLeast g f (negsuc 0) ∷ []) (values loops ++ more) setting.values).1
         (by_lt_z (at f) (at g) (λ l. inr ((at_least_part g f (negsuc 0)).1 (omega (arith, ints))))
-        (λ l. inl ((at_least_part f g (negsuc 0)).1 (by_lt_z (at g) (at f) (λ m. omega (arith, ints)) (λ m. absurd (n (omega (arith, ints))))))))))
+        (λ l. inl ((at_least_part f g (negsuc 0)).1 (by_lt_z (at g) (at f) (λ m. omega (arith, ints)) (λ m. absurd (n (omega (arith, ints))))))))),
+  )
     where
       into : Some (row_part AtLeast f g (negsuc 0) ∷ []) ⊎ Some (row_part AtLeast g f (negsuc 0) ∷ []) → ¬ (at f ≡ at g)
       into (inl h) = let t = (at_least_part f g (negsuc 0)).0 h in λ e. omega (arith, ints)
@@ -294,6 +299,7 @@ module _ (setting : Setting) (loops : List Binding) (more : List ℤ) where
         into : Some (multiple_part (of e) d ∷ []) → int_rem v (pos d) ≡ pos 0
         into (inl p) = let l : ℤ = p.0.0 in let row = p.0.1.0 in (zero_rest v d divisor_is).1 (l, omega (arith, ints, value_is, neg_mul_z (pos d) l))
         into (inr p) = absurd p
+
         back : int_rem v (pos d) ≡ pos 0 → Some (multiple_part (of e) d ∷ [])
         back z = let p = (zero_rest v d divisor_is).0 z in let l : ℤ = p.0 in let is = p.1 in inl ((l, (omega (arith, ints, value_is, neg_mul_z (pos d) l), tt)), tt)
 
@@ -302,6 +308,7 @@ module _ (setting : Setting) (loops : List Binding) (more : List ℤ) where
       where
         opposite_is : at (opposite_of (of e)) ≡ neg_ℤ (at (of e))
         opposite_is = opposite_at (of e) (values loops ++ more) setting.values
+
         into : Some (between_part (of e) d ∷ []) → ¬ (int_rem v (pos d) ≡ pos 0)
         into (inl p) =
             let l : ℤ = p.0.0 in
@@ -309,6 +316,7 @@ module _ (setting : Setting) (loops : List Binding) (more : List ℤ) where
             let high = p.0.1.1.0 in
             (some_rest v d divisor_is).1 (l, omega (arith, ints, value_is, neg_mul_z (pos d) l), omega (arith, ints, value_is, opposite_is))
         into (inr p) = absurd p
+
         back : (¬ (int_rem v (pos d) ≡ pos 0)) → Some (between_part (of e) d ∷ [])
         back z =
             let p = (some_rest v d divisor_is).0 z in
@@ -330,7 +338,7 @@ module _ (setting : Setting) (loops : List Binding) (more : List ℤ) where
   affine_sides comparison left right h =
       let t = both_true (is_affine left) (is_affine right) h in
       let is : compare comparison (at (of left)) (at (of right)) ≡ compare comparison (value_of setting loops left) (value_of setting loops right) =
-        ap (λ z. compare comparison z (at (of right))) (form_has setting loops more left t.0) ∙ ap (λ z. compare comparison (value_of setting loops left) z) (form_has setting loops more right t.1) in
+      ap (λ z. compare comparison z (at (of right))) (form_has setting loops more left t.0) ∙ ap (λ z. compare comparison (value_of setting loops left) z) (form_has setting loops more right t.1) in
       let rule = comparison_has comparison (of left) (of right) in
       (λ p. sym is ∙ rule.0 p, λ p. rule.1 (is ∙ p))
 
@@ -351,7 +359,7 @@ module _ (setting : Setting) (loops : List Binding) (more : List ℤ) where
       let u = both_true (is_equality comparison) (is_zero right) t.0 in
       let rule = remainder_has e d t.1 comparison u.0 in
       let is : compare comparison (value_of setting loops (Remainder e d)) (value_of setting loops right) ≡ compare comparison (int_rem (value_of setting loops e) (pos d)) (pos 0) =
-        ap (λ z. compare comparison (int_rem (value_of setting loops e) (pos d)) z) (zero_value setting loops right u.1) in
+      ap (λ z. compare comparison (int_rem (value_of setting loops e) (pos d)) z) (zero_value setting loops right u.1) in
       (λ p. is ∙ rule.0 p, λ p. rule.1 (sym is ∙ p))
 
   and_false : (s t : Bool) → ((s && t) ≡ false) ↔ ((s ≡ false) ⊎ (t ≡ false))

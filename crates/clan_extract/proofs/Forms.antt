@@ -1,15 +1,15 @@
 -- The form of an affine expression has the expression's value.
-use Rattle.std.proofs.Common.{◌≡◌, ◌⊎◌, inl, inr, ℕ, zero, suc, ◌+◌, List, [], ◌∷◌, ◌++◌, length, map, replicate, Bool, true, false, cond, not, ◌&&◌, ◌||◌, refl, sym, ◌∙◌, ap, arith, ℤ, pos, negsuc, neg_ℤ, ◌+ℤ◌, ◌-ℤ◌, ◌*ℤ◌}
+use Rattle.std.proofs.Common.{◌≡◌, ◌⊎◌, inl, inr, ℕ, zero, suc, List, [], ◌∷◌, ◌++◌, length, map, Bool, true, false, cond, not, ◌&&◌, ◌||◌, refl, sym, ◌∙◌, ap, arith, ℤ, pos, negsuc, neg_ℤ, ◌+ℤ◌, ◌-ℤ◌, ◌*ℤ◌}
 use Rattle.std.specs.Prelude.{bytes_eq}
 use Rattle.std.proofs.lemmas.Int.{ints}
-use Rattle.row_core.specs.Rows.{dot, add_rows, scale}
+use Rattle.row_core.specs.Rows.{dot}
 use Rattle.row_core.specs.Linear.{dot_add, dot_scale, mul_add_z, mul_comm_z}
 use Rattle.scop_core.specs.SolvedRows.{zeros}
 use Rattle.scop_core.specs.Meaning.{affine_at}
 use Rattle.scop_core.specs.declared.affines.Affine.{Affine}
 use Rattle.clan_extract.specs.Regions.{Expression, Number, Name, Sum, Difference, Product, Negation, Maximum, Minimum, Ceiling, Floor, Remainder, is_among}
 use Rattle.clan_extract.specs.Execution.{Binding, Setting, parameter_value, value_inside, name_value, value_of}
-use Rattle.clan_extract.specs.Forms.{has_names, is_affine, innermost, first_of_name, constant_form, name_form, sum_of, multiple, opposite_of, difference, form}
+use Rattle.clan_extract.specs.Forms.{has_names, is_affine, innermost, first_of_name, constant_form, sum_of, multiple, opposite_of, difference, form}
 
 pub both_true : (r s : Bool) → (r && s) ≡ true → (r ≡ true) × (s ≡ true)
 both_true true true h = (refl, refl)

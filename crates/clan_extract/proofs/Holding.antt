@@ -1,5 +1,5 @@
 -- Where rows, constraints and parts hold.
-use Rattle.std.proofs.Common.{◌⊎◌, inl, inr, List, [], ◌∷◌, ◌++◌, ℤ, pos, ◌+ℤ◌, ◌*ℤ◌, Bool, true, false}
+use Rattle.std.proofs.Common.{◌⊎◌, List, [], ◌∷◌, ◌++◌, ℤ, pos, ◌+ℤ◌, ◌*ℤ◌, Bool, true, false}
 use Rattle.std.specs.Prelude.{◌↔◌}
 use Rattle.relation_core.specs.Points.{Meets}
 use Rattle.scop_core.specs.Meaning.{affine_at}

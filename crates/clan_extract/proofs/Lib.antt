@@ -11,5 +11,6 @@ pub mod Reaching
 pub mod Traces
 pub mod TurnOrders
 pub mod TurnSteps
+pub mod Meanings
 mod Checks
 mod ScopChecks

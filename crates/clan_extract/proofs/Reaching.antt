@@ -1,11 +1,10 @@
 -- The values at which an assignment is reached are its domain.
-use Rattle.std.proofs.Common.{◌≡◌, ◌⊎◌, inl, inr, ℕ, zero, suc, ◌+◌, List, [], ◌∷◌, ◌++◌, length, map, Bool, true, false, ◌&&◌, cond, refl, sym, ◌∙◌, ap, subst, arith, append_assoc, ℤ, pos}
+use Rattle.std.proofs.Common.{◌≡◌, inl, inr, ℕ, List, [], ◌∷◌, ◌++◌, length, map, Bool, true, ◌&&◌, refl, sym, ◌∙◌, ap, subst, arith, append_assoc, ℤ}
 use Rattle.std.specs.Prelude.{◌↔◌}
 use Rattle.std.proofs.lemmas.List.{map-append}
 use Rattle.scop_core.specs.Sequences.{In}
 use Rattle.scop_core.specs.Meaning.{InDomain}
 use Rattle.relation_core.specs.Points.{LiesInSome}
-use Rattle.clan_extract.specs.Regions.{Condition}
 use Rattle.clan_extract.specs.Execution.{Binding, Setting, value_of, truth_of, loop_values}
 use Rattle.clan_extract.specs.Placements.{Head, Round, Loop, Test, Placed, loop_names}
 use Rattle.clan_extract.specs.Constraints.{loop_constraints, parts_of, parts_of_condition}
@@ -38,7 +37,7 @@ are_rounds (Loop h ∷ rounds) = is_head h && are_rounds rounds
 are_rounds (Test truth c ∷ rounds) = is_condition c && are_rounds rounds
 
 module _ (setting : Setting) where
-  reached_length : (loops : List Binding) (rounds : List Round) (x : List ℤ) → Reached setting loops rounds x → length x ≡ length (loop_names rounds)
+  pub reached_length : (loops : List Binding) (rounds : List Round) (x : List ℤ) → Reached setting loops rounds x → length x ≡ length (loop_names rounds)
   reached_length loops [] [] h = refl
   reached_length loops [] (v ∷ x) h = absurd h
   reached_length loops (Loop head ∷ rounds) [] h = absurd h
@@ -65,9 +64,10 @@ module _ (setting : Setting) where
       let values_are : values inside ++ x ≡ y = ap (λ l. l ++ x) (map-append (λ b. b.value) loops (running head.name v ∷ [])) ∙ append_assoc (values loops) (v ∷ []) x in
       let P : List (List ℕ) → List ℤ → Type 0 = λ l z. SomeHolds (parts_of setting.parameters l rounds) z setting.values in
       let there : P (names inside) (values inside ++ x) → P (names loops ++ head.name ∷ []) y = λ p. subst (λ z. P (names loops ++ head.name ∷ []) z) values_are (subst (λ l. P l (values inside ++ x)) names_are p) in
-      let back : P (names loops ++ head.name ∷ []) y → P (names inside) (values inside ++ x) = λ p. subst (λ z. P (names inside) z) (sym values_are) (subst (λ l. P l y) (sym names_are) p) in
-      (λ p. (let u = rule.0 p in (turn.0 (alone (loop_constraints setting.parameters (names loops) head) y u.0), rest.0 (back u.1))),
-      λ p. rule.1 (inl (turn.1 p.0), there (rest.1 p.1)))
+      let back : P (names loops ++ head.name ∷ []) y → P (names inside) (values inside ++ x) = λ p. subst (λ z. P (names inside) z) (sym values_are) (subst (λ l. P l y) (sym names_are) p) in (
+        λ p. (let u = rule.0 p in (turn.0 (alone (loop_constraints setting.parameters (names loops) head) y u.0), rest.0 (back u.1))),
+        λ p. rule.1 (inl (turn.1 p.0), there (rest.1 p.1)),
+      )
     where
       alone : (cs : _) (y : List ℤ) → SomeHolds (cs ∷ []) y setting.values → AllHold cs y setting.values
       alone cs y (inl a) = a
@@ -84,7 +84,8 @@ module _ (setting : Setting) where
       → InDomain (statement setting.parameters setting.arrays p) x setting.values ↔ Reached setting [] p.rounds x
   domain_is e p x h =
       let Q : ℕ → ℕ → Type 0 = λ d k. LiesInSome (map (part d k) (parts_of setting.parameters [] p.rounds)) x [] setting.values in
-      let rule = lies_in_some x setting.values (parts_of setting.parameters [] p.rounds) in
-      (λ d. (parts_have [] p.rounds x h d.0).0 (rule.0 (subst (λ k. Q (length x) k) (sym e) (subst (λ k. Q k (length setting.parameters)) (sym d.0) d.1))),
-      λ r. (let l = reached_length [] p.rounds x r in
-        (l, subst (λ k. Q k (length setting.parameters)) l (subst (λ k. Q (length x) k) e (rule.1 ((parts_have [] p.rounds x h l).1 r))))))
+      let rule = lies_in_some x setting.values (parts_of setting.parameters [] p.rounds) in (
+        λ d. (parts_have [] p.rounds x h d.0).0 (rule.0 (subst (λ k. Q (length x) k) (sym e) (subst (λ k. Q k (length setting.parameters)) (sym d.0) d.1))),
+        λ r. (let l = reached_length [] p.rounds x r in
+            (l, subst (λ k. Q k (length setting.parameters)) l (subst (λ k. Q (length x) k) e (rule.1 ((parts_have [] p.rounds x h l).1 r))))),
+      )

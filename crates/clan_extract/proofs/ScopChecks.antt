@@ -1,18 +1,15 @@
 -- The SCoPs of regions, as they are worked out by hand.
-use Rattle.std.proofs.Common.{◌≡◌, refl, List, [], ◌∷◌, ◌++◌, ℕ, zero, suc, ℤ, pos, negsuc, map, length, Some, None}
+use Rattle.std.proofs.Common.{◌≡◌, refl, List, [], ◌∷◌, ◌++◌, ℕ, zero, suc, ℤ, pos, negsuc, map, length, None}
 use Rattle.std.specs.Prelude.{codes, true, false}
 use Rattle.relation_core.specs.Systems.{System}
 use Rattle.relation_core.specs.declared.part_rows.PartRow.{PartRow}
-use Rattle.relation_core.specs.declared.part_rows.RowKind.{RowKind}
 use Rattle.relation_core.specs.declared.part_rows.RowKind.TheVariants.{Equal, AtLeast}
 use Rattle.scop_core.specs.declared.affines.Affine.{Affine}
-use Rattle.scop_core.specs.declared.accesses.Access.{Access}
 use Rattle.scop_core.specs.declared.accesses.AccessKind.TheVariants.{Read, Write}
 use Rattle.scop_core.specs.declared.statements.Statement.{Statement}
-use Rattle.clan_extract.specs.Regions.{Expression, Number, Name, Sum, Difference, Product, Negation, Maximum, Minimum, Ceiling, Floor, Remainder, Comparison, IsLess, IsLessOrEqual, IsGreaterOrEqual, IsEqual, IsUnequal, Condition, Compare, Both, Either, Opposite, Reference, Node, Nodes, NoNodes, Then, For, If, Block, Assign}
-use Rattle.clan_extract.specs.Placements.{Head, placed_all, children_of_all}
+use Rattle.clan_extract.specs.Regions.{Expression, Number, Name, Sum, Difference, Product, Maximum, Minimum, Ceiling, Floor, Remainder, Comparison, IsLess, IsLessOrEqual, IsGreaterOrEqual, IsEqual, IsUnequal, Condition, Compare, Both, Either, Node, Nodes, NoNodes, Then, For, If, Block, Assign}
 use Rattle.clan_extract.specs.Constraints.{parts_of_condition}
-use Rattle.clan_extract.specs.Scops.{part, scop_of, is_head, are_affine_nodes}
+use Rattle.clan_extract.specs.Scops.{scop_of, is_head, are_affine_nodes}
 use Rattle.clan_extract.specs.Translation.{one_loop_region, one_loop_scop}
 use Rattle.clan_extract.proofs.Checks.{sample}
 

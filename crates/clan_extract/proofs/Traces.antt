@@ -1,11 +1,10 @@
 -- The turns of a region: each execution of an assignment, in the order in which C runs them.
-use Rattle.std.proofs.Common.{◌≡◌, ◌⊎◌, inl, inr, ℕ, zero, suc, ◌+◌, List, [], ◌∷◌, ◌++◌, length, map, Bool, true, false, ◌&&◌, cond, refl, sym, ◌∙◌, ap, subst, arith, append_assoc, ℤ, pos}
+use Rattle.std.proofs.Common.{◌≡◌, ◌⊎◌, inl, inr, ℕ, ◌+◌, List, [], ◌∷◌, ◌++◌, length, map, Bool, true, false, cond, refl, sym, subst, arith, ℤ}
 use Rattle.std.specs.Prelude.{flat_map}
-use Rattle.scop_core.specs.Sequences.{In, fold_steps}
-use Rattle.scop_core.specs.Memory.{Memory}
-use Rattle.clan_extract.specs.Regions.{Expression, Comparison, Condition, Assignment, Node, For, If, Block, Assign, Nodes, NoNodes, Then}
-use Rattle.clan_extract.specs.Execution.{Binding, Setting, value_of, truth_of, loop_values, assigned, run_node, run_nodes}
-use Rattle.clan_extract.specs.Placements.{Head, Round, Loop, Test, Placed, in_loop, in_test, placed, placed_all, children, children_of_all}
+use Rattle.scop_core.specs.Sequences.{In}
+use Rattle.clan_extract.specs.Regions.{Expression, Comparison, Condition, Node, For, If, Block, Assign, Nodes, NoNodes, Then}
+use Rattle.clan_extract.specs.Execution.{Binding, Setting, value_of, truth_of, loop_values}
+use Rattle.clan_extract.specs.Placements.{Head, Placed, in_loop, in_test, placed, placed_all, children, children_of_all}
 use Rattle.clan_extract.proofs.Members.{in_left, in_right, in_append, in_map, of_map, in_flat, of_flat, Numbered, numbered_left, numbered_right, numbered_append, numbered_map, of_numbered_map}
 use Rattle.clan_extract.proofs.Reaching.{running, Reached}
 
@@ -144,6 +143,7 @@ module _ (setting : Setting) where
         chosen : (truth : Bool) (q : Placed) → truth_of setting loops condition ≡ truth → In (turn j (in_test truth condition q) x) (cond truth (map (turn_in_test true condition) (then_turns loops from k then_nodes)) (map (turn_in_test false condition) (else_turns loops from k then_nodes else_nodes)))
             → In (turn j (in_test truth condition q) x) (cond (truth_of setting loops condition) (map (turn_in_test true condition) (then_turns loops from k then_nodes)) (map (turn_in_test false condition) (else_turns loops from k then_nodes else_nodes)))
         chosen truth q e i = subst (λ b. In (turn j (in_test truth condition q) x) (cond b (map (turn_in_test true condition) (then_turns loops from k then_nodes)) (map (turn_in_test false condition) (else_turns loops from k then_nodes else_nodes)))) (sym e) i
+
         by : Numbered k (map (in_test true condition) (placed_all from then_nodes)) j p
             ⊎ Numbered (k + length (map (in_test true condition) (placed_all from then_nodes))) (map (in_test false condition) (placed_all (from + children_of_all then_nodes) else_nodes)) j p
             → Comes loops k (placed_all from then_nodes) (then_turns loops from k then_nodes)

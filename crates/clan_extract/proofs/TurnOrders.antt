@@ -1,21 +1,21 @@
 -- Each turn of a region has its stamp before those of all later turns.
-use Rattle.std.proofs.Common.{◌≡◌, ◌⊎◌, inl, inr, ℕ, zero, suc, ◌+◌, ◌≤◌, List, [], ◌∷◌, ◌++◌, length, map, Bool, true, false, ◌&&◌, cond, refl, sym, ◌∙◌, ap, subst, arith, ℤ, pos, negsuc, ◌+ℤ◌, ◌*ℤ◌, ◌≤ℤ◌, ◌<ℤ◌}
+use Rattle.std.proofs.Common.{◌≡◌, ◌⊎◌, inl, inr, ℕ, ◌+◌, ◌≤◌, List, [], ◌∷◌, ◌++◌, length, map, Bool, true, false, ◌&&◌, cond, refl, sym, ◌∙◌, ap, subst, arith, ℤ, pos, negsuc, ◌+ℤ◌, ◌*ℤ◌, ◌≤ℤ◌, ◌<ℤ◌}
 use Rattle.std.specs.Prelude.{flat_map, int_le, nat_eq, unsigned_abs}
 use Rattle.std.proofs.lemmas.Int.{ints}
 use Rattle.row_core.proofs.Ring.{mul_add_z}
 use Rattle.scop_core.specs.Order.{Before}
-use Rattle.scop_core.specs.Sequences.{In, Rising}
+use Rattle.scop_core.specs.Sequences.{In}
 use Rattle.scop_core.specs.Meaning.{interleaved}
-use Rattle.clan_extract.specs.Regions.{Expression, Comparison, IsLess, IsLessOrEqual, IsGreater, IsGreaterOrEqual, IsEqual, IsUnequal, Node, For, If, Block, Assign, Nodes, NoNodes, Then}
+use Rattle.clan_extract.specs.Regions.{Comparison, IsLess, IsLessOrEqual, IsGreater, IsGreaterOrEqual, IsEqual, IsUnequal, Node, For, If, Block, Assign, Nodes, NoNodes, Then}
 use Rattle.clan_extract.specs.Execution.{Binding, Setting, value_of, truth_of, compare, loop_values, AsLongAs, Approaches}
 use Rattle.clan_extract.specs.Forms.{is_affine}
-use Rattle.clan_extract.specs.Placements.{Head, Round, Loop, Test, Placed, placed, placed_all, one_if_any, children, children_of_all, direction, directions}
+use Rattle.clan_extract.specs.Placements.{Head, Placed, placed, placed_all, one_if_any, children, children_of_all, direction, directions}
 use Rattle.clan_extract.specs.Scops.{is_lower_bound, is_upper_bound, has_bounds, is_head, is_condition, is_affine_node, are_affine_nodes}
 use Rattle.clan_extract.proofs.Loops.{loops_run}
 use Rattle.clan_extract.proofs.Forms.{both_true}
 use Rattle.clan_extract.proofs.Members.{in_append, of_map, of_flat, Numbered}
 use Rattle.clan_extract.proofs.Reaching.{running}
-use Rattle.clan_extract.proofs.Traces.{Turn, turn, turn_in_loop, turn_in_test, head_of, trace, trace_all, then_turns, else_turns, only_all}
+use Rattle.clan_extract.proofs.Traces.{Turn, turn_in_loop, turn_in_test, head_of, trace, trace_all, then_turns, else_turns, only_all}
 
 -- each member is related to each later one
 abbrev pub Pairwise : {X : Type 0} → (X → X → Type 0) → List X → Type 0
@@ -152,9 +152,9 @@ module _ (setting : Setting) where
         (loop_values comparison (value_of setting loops start) (value_of setting loops bound) step)
         (λ v. pairwise_map Precede Precede (turn_in_loop from head v) (trace_all setting (loops ++ running name v ∷ []) 0 k body) (λ t u l. inr (refl, inr (refl, l))) (ordered_all body (loops ++ running name v ∷ []) 0 k e.1))
         (λ v w l t u i j. (
-          let a = of_map (turn_in_loop from head v) t (trace_all setting (loops ++ running name v ∷ []) 0 k body) i in
-          let b = of_map (turn_in_loop from head w) u (trace_all setting (loops ++ running name w ∷ []) 0 k body) j in
-          subst (λ z. Precede z u) a.2 (subst (λ z. Precede (turn_in_loop from head v a.0) z) b.2 (inr (refl, inl l)))))
+        let a = of_map (turn_in_loop from head v) t (trace_all setting (loops ++ running name v ∷ []) 0 k body) i in
+        let b = of_map (turn_in_loop from head w) u (trace_all setting (loops ++ running name w ∷ []) 0 k body) j in
+        subst (λ z. Precede z u) a.2 (subst (λ z. Precede (turn_in_loop from head v a.0) z) b.2 (inr (refl, inl l)))))
         (values_rise head (value_of setting loops start) (value_of setting loops bound) e.0)
     ordered (If condition then_nodes else_nodes) loops from k h =
         let e = both_true (is_condition condition) (are_affine_nodes then_nodes && are_affine_nodes else_nodes) h in
@@ -175,4 +175,4 @@ module _ (setting : Setting) where
         pairwise_append Precede (trace setting loops from k first) (trace_all setting loops (from + children first) (k + length (placed from first)) rest)
         (ordered first loops from k e.0) (ordered_all rest loops (from + children first) (k + length (placed from first)) e.1)
         (λ t u i j. before_by_first from (from + children first) (from + children first + children_of_all rest) (stamp_of_turn t) (stamp_of_turn u)
-          (within first loops from k t i) (within_all rest loops (from + children first) (k + length (placed from first)) u j))
+        (within first loops from k t i) (within_all rest loops (from + children first) (k + length (placed from first)) u j))

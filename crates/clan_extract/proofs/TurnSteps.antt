@@ -1,26 +1,19 @@
 -- A region does to a memory what the steps of its turns do.
-use Rattle.std.proofs.Common.{◌≡◌, ◌⊎◌, inl, inr, ℕ, zero, suc, ◌+◌, List, [], ◌∷◌, ◌++◌, length, map, Bool, true, false, ◌&&◌, ◌||◌, not, cond, refl, sym, ◌∙◌, ap, subst, arith, append_assoc, Some, ℤ, pos, ◌+ℤ◌, ◌*ℤ◌}
+use Rattle.std.proofs.Common.{◌≡◌, inl, inr, ℕ, ◌+◌, List, [], ◌∷◌, ◌++◌, length, map, Bool, true, false, ◌&&◌, cond, refl, sym, ◌∙◌, ap, append_assoc, ℤ}
 use Rattle.std.specs.Prelude.{flat_map, filter}
-use Rattle.std.proofs.lemmas.Int.{ints}
-use Rattle.row_core.specs.Rows.{dot}
 use Rattle.scop_core.specs.Sequences.{In, fold_steps}
-use Rattle.scop_core.specs.Memory.{Cell, App, Memory, stored, terms_at, Use, Event, store_each, cells_of, is_writing, is_read, is_maybe_written, step_of}
-use Rattle.scop_core.specs.Meaning.{affine_at, use_at, event_in, stamp_of, levels_at}
-use Rattle.scop_core.specs.SolvedRows.{zeros}
-use Rattle.scop_core.specs.declared.affines.Affine.{Affine}
-use Rattle.scop_core.specs.declared.accesses.Access.{Access}
+use Rattle.scop_core.specs.Memory.{Cell, App, Memory, terms_at, Use, Event, store_each, cells_of, is_writing, is_read, is_maybe_written, step_of}
+use Rattle.scop_core.specs.Meaning.{affine_at, use_at}
 use Rattle.scop_core.specs.declared.accesses.AccessKind.{AccessKind}
 use Rattle.scop_core.specs.declared.accesses.AccessKind.TheVariants.{Read, Write}
-use Rattle.scop_core.specs.declared.statements.Statement.{Statement}
-use Rattle.clan_extract.specs.Regions.{Expression, Comparison, Condition, Reference, Assignment, Node, For, If, Block, Assign, Nodes, NoNodes, Then, is_array, array_references, number_in}
-use Rattle.clan_extract.specs.Execution.{Binding, Setting, value_of, truth_of, loop_values, cell_of, reads_of, assigned, run_node, run_nodes}
+use Rattle.clan_extract.specs.Regions.{Expression, Reference, Assignment, Node, For, If, Block, Assign, Nodes, NoNodes, Then, is_array, array_references, number_in}
+use Rattle.clan_extract.specs.Execution.{Binding, Setting, value_of, truth_of, loop_values, cell_of, assigned, run_node, run_nodes}
 use Rattle.clan_extract.specs.Forms.{is_affine, form}
-use Rattle.clan_extract.specs.Placements.{Head, Round, Loop, Test, Placed, placed, placed_all, children, children_of_all, loop_names, directions}
-use Rattle.clan_extract.specs.Scops.{diagonal, levels, access, references_read, accesses, statement, are_affine, have_affine_subscripts}
-use Rattle.clan_extract.proofs.Forms.{both_true, names, values, form_has, dot_zeros}
-use Rattle.clan_extract.proofs.Reaching.{running, Reached}
-use Rattle.clan_extract.proofs.Traces.{Turn, turn, turn_in_loop, turn_in_test, head_of, trace, trace_all, then_turns, else_turns}
-use Rattle.clan_extract.proofs.TurnOrders.{signed, stamp_at}
+use Rattle.clan_extract.specs.Placements.{Head, Round, Loop, Test, placed, placed_all, children, children_of_all}
+use Rattle.clan_extract.specs.Scops.{access, references_read, accesses, are_affine, have_affine_subscripts}
+use Rattle.clan_extract.proofs.Forms.{both_true, names, values, form_has}
+use Rattle.clan_extract.proofs.Reaching.{running}
+use Rattle.clan_extract.proofs.Traces.{Turn, turn_in_loop, turn_in_test, head_of, trace, trace_all, then_turns, else_turns}
 
 -- the loops that run at these values
 abbrev pub bindings : List Round → List ℤ → List Binding
@@ -65,7 +58,7 @@ module _ (setting : Setting) where
         fold_flat (effect setting loops) (λ v. map (turn_in_loop from head v) (trace_all setting (loops ++ running name v ∷ []) 0 k body))
         (λ v l. run_nodes setting (loops ++ running name v ∷ []) body l) (loop_values comparison (value_of setting loops start) (value_of setting loops bound) step)
         (λ v l. fold_map (effect setting loops) (turn_in_loop from head v) (effect setting (loops ++ running name v ∷ [])) (trace_all setting (loops ++ running name v ∷ []) 0 k body)
-          (λ t s i. in_loop_effect loops from head v t s) l ∙ runs_all body (loops ++ running name v ∷ []) 0 k l) m
+        (λ t s i. in_loop_effect loops from head v t s) l ∙ runs_all body (loops ++ running name v ∷ []) 0 k l) m
     runs (If condition then_nodes else_nodes) loops from k m =
         by (truth_of setting loops condition) (runs_all then_nodes loops from k m) (runs_all else_nodes loops (from + children_of_all then_nodes) (k + length (placed_all from then_nodes)) m)
       where

@@ -1,5 +1,5 @@
 -- The values of a loop are those at which its constraints hold.
-use Rattle.std.proofs.Common.{◌≡◌, ◌⊎◌, inl, inr, ℕ, zero, suc, ◌+◌, List, [], ◌∷◌, ◌++◌, length, map, Bool, true, false, ◌&&◌, cond, refl, sym, ◌∙◌, ap, subst, arith, ℤ, pos, negsuc, neg_ℤ, ◌+ℤ◌, ◌-ℤ◌, ◌*ℤ◌, ◌≤ℤ◌, ◌<ℤ◌}
+use Rattle.std.proofs.Common.{◌≡◌, inl, inr, ℕ, zero, suc, List, [], ◌∷◌, ◌++◌, Bool, true, false, ◌&&◌, cond, refl, sym, ◌∙◌, ap, subst, arith, ℤ, pos, negsuc, neg_ℤ, ◌+ℤ◌, ◌-ℤ◌, ◌*ℤ◌, ◌≤ℤ◌, ◌<ℤ◌}
 use Rattle.std.specs.Prelude.{nat_eq, int_lt, int_le, unsigned_abs, ◌↔◌}
 use Rattle.std.proofs.lemmas.Int.{ints}
 use Rattle.std.proofs.lemmas.Bool.{eqb-true}
@@ -8,7 +8,7 @@ use Rattle.relation_core.specs.declared.part_rows.RowKind.TheVariants.{Equal}
 use Rattle.scop_core.specs.declared.affines.Affine.{Affine}
 use Rattle.scop_core.specs.Sequences.{In}
 use Rattle.clan_extract.specs.Regions.{Comparison, IsLess, IsLessOrEqual, IsGreater, IsGreaterOrEqual, IsEqual, IsUnequal}
-use Rattle.clan_extract.specs.Execution.{Binding, Setting, value_of, compare, loop_values, AsLongAs}
+use Rattle.clan_extract.specs.Execution.{Binding, Setting, value_of, loop_values, AsLongAs}
 use Rattle.clan_extract.specs.Forms.{is_affine}
 use Rattle.clan_extract.specs.Placements.{Head}
 use Rattle.clan_extract.specs.Constraints.{Constraint, lower_rows, upper_rows, loop_rows, loop_constraints, stride_form}

@@ -7,10 +7,9 @@ use Rattle.scop_core.specs.declared.affines.Affine.{Affine}
 use Rattle.scop_core.specs.declared.accesses.Access.{Access}
 use Rattle.scop_core.specs.declared.accesses.AccessKind.{AccessKind}
 use Rattle.scop_core.specs.declared.accesses.AccessKind.TheVariants.{Read, Write}
-use Rattle.scop_core.specs.declared.schedules.Schedule.{Schedule}
 use Rattle.scop_core.specs.declared.statements.Statement.{Statement}
 use Rattle.scop_core.specs.ScopData.{ScopData}
-use Rattle.clan_extract.specs.Regions.{Expression, Number, Name, Sum, Difference, Product, Negation, Maximum, Minimum, Ceiling, Floor, Remainder, Comparison, IsLess, IsLessOrEqual, IsGreater, IsGreaterOrEqual, IsEqual, IsUnequal, Condition, Compare, Both, Either, Opposite, Reference, Assignment, Node, For, If, Block, Assign, Nodes, NoNodes, Then, array_references, number_in, numbered}
+use Rattle.clan_extract.specs.Regions.{Expression, Number, Maximum, Minimum, Ceiling, Floor, Remainder, Comparison, IsLess, IsLessOrEqual, IsGreater, IsGreaterOrEqual, IsEqual, IsUnequal, Condition, Compare, Both, Either, Opposite, Reference, Assignment, Node, For, If, Block, Assign, Nodes, NoNodes, Then, array_references, number_in, numbered}
 use Rattle.clan_extract.specs.Execution.{Setting}
 use Rattle.clan_extract.specs.Forms.{is_affine, form}
 use Rattle.clan_extract.specs.Placements.{Head, Placed, placed_all, loop_names, directions}

@@ -1,6 +1,7 @@
 //! The laws of the translation: functions that do nothing, and whose contracts are the laws.
 
 ghost use Rattle.clan_extract.specs.Execution.{LoopsRunAsLongAs};
+ghost use Rattle.clan_extract.specs.Scops.{ScopMeansItsRegion};
 ghost use Rattle.clan_extract.specs.Translation.{OneLoopMeansItsRegion, OneLoopHasItsNames};
 
 /// The values of a loop are its start and each next one, as long as the comparison with its bound
@@ -18,4 +19,10 @@ pub fn one_loop_means_its_region()
 /// The SCoP of one loop names the loop's parameter, and numbers its array by first occurrence.
 pub fn one_loop_has_its_names()
     ensures { OneLoopHasItsNames }
+{}
+
+/// For all names of parameters and arrays and all values of the parameters, the SCoP of a region whose
+/// places of control can be translated has a run, whose final memory is the memory after the region.
+pub fn scop_means_its_region()
+    ensures { ScopMeansItsRegion }
 {}
