@@ -8,4 +8,4 @@ mod texts;
 
 pub use certificates::Certificate;
 pub use checks::{TooHeavy, check, valid_means_empty};
-pub use texts::{print_cert, read_cert, reads_back};
+pub use texts::{print_cert, print_multipliers, read_cert, reads_back};

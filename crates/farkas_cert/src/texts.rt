@@ -18,9 +18,17 @@ pub fn print_cert(text: &mut Text, certificate: &Certificate) -> Result<(), NoMe
     ensures err { OnErr result (text.new ≡ text.old) }
 {
     let mut line = Text::new(certificate.allocator());
-    push_line(&mut line, certificate.as_slice())?;
+    print_multipliers(&mut line, certificate)?;
     line.push(b'\n')?;
     text.push_bytes(line.bytes())
+}
+
+/// Appends the multipliers with single spaces between them, without a newline. On want of memory some of
+/// them may have been appended.
+pub fn print_multipliers(text: &mut Text, certificate: &Certificate) -> Result<(), NoMemory>
+    ensures { OnOk result (text.new ≡ text.old ++ certificate_line certificate.now) }
+{
+    push_line(text, certificate.as_slice())
 }
 
 /// Reads the words of `line`, its runs of bytes that aren't blank, as multipliers. `None` exactly

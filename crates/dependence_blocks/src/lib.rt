@@ -1,0 +1,7 @@
+//! The block of dependences as text: an extension of a SCoP that lists the systems, each kept with its rows or
+//! dropped with its multipliers.
+#![tactic(auto)]
+
+mod printing;
+
+pub use printing::{block, print_count, print_entry};
