@@ -1,5 +1,5 @@
 -- Pieces of a line that are appended one after the other.
-use Rattle.std.proofs.Common.{◌≡◌, ◌++◌, ◌∷◌, [], List, ℕ, refl, ◌∙◌, ap}
+use Rattle.std.proofs.Common.{◌≡◌, ◌++◌, ◌∷◌, [], List, ℕ, ◌∙◌}
 use Rattle.std.proofs.lemmas.List.{append_assoc}
 
 -- one more number behind a line, and what follows

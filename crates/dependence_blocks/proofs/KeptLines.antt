@@ -1,6 +1,6 @@
 -- The lines of a block can stand in it: none of them has a newline or a `<`.
-use Rattle.std.proofs.Common.{◌*◌, ◌≡◌, ◌⊎◌, inl, inr, ℕ, zero, suc, ◌+◌, ◌<◌, ◌≤◌, ◌^◌, Bool, true, false, List, [], ◌∷◌, ◌++◌, map, length, ℤ, pos, negsuc, unsigned_abs, refl, ap, sym, ◌∙◌, arith}
-use Rattle.std.specs.Prelude.{get_or, ◌==◌, ◌&&◌, not, nat_le, codes, Option, Some, None, IfSome, reverse}
+use Rattle.std.proofs.Common.{◌*◌, ◌≡◌, inl, inr, ℕ, suc, ◌+◌, ◌<◌, ◌≤◌, ◌^◌, true, false, List, [], ◌∷◌, ◌++◌, map, length, ℤ, pos, negsuc, unsigned_abs, refl, ap, sym, ◌∙◌, arith}
+use Rattle.std.specs.Prelude.{get_or, not, nat_le, Option, Some, None, IfSome, reverse}
 use mathlib.Core.List.{reverse_aux}
 use Rattle.std.specs.List.{flat_map}
 use Rattle.std.specs.Fmt.{decimal, signed_decimal}
@@ -9,7 +9,7 @@ use Rattle.std.proofs.lemmas.Bool.Decides.{nat_tests}
 use Rattle.std.proofs.lemmas.Int.{ints}
 use Rattle.suite_base.specs.Lines.{is_blank, trim, trim_front}
 use Rattle.suite_base.specs.Words.{spaced}
-use Rattle.suite_base.specs.Numbers.{is_digit, all_digits, are_digits}
+use Rattle.suite_base.specs.Numbers.{all_digits, are_digits}
 use Rattle.suite_base.proofs.NumberLaws.{decimal_digits}
 use Rattle.row_core.specs.Rows.{entry, AreCoefficients}
 use Rattle.relation_core.specs.declared.part_rows.PartRow.{PartRow}
@@ -26,7 +26,7 @@ use Rattle.std.proofs.lemmas.Slice.Eq.{bytes_eq-Decides}
 use Rattle.dependence_systems.specs.declared.deps.Dep.{Dep}
 use Rattle.dependence_systems.specs.declared.deps.DepKind.{DepKind}
 use Rattle.dependence_systems.specs.declared.deps.DepKind.TheVariants.{Raw, War, Waw}
-use Rattle.dependence_blocks.specs.Blocks.{block_name, kind_word, entry_numbers, entry_words, verdict_word, head_line, system_lines, verdict_lines, entry_lines}
+use Rattle.dependence_blocks.specs.Blocks.{kind_word, entry_numbers, entry_words, verdict_word, head_line, verdict_lines, entry_lines}
 use Rattle.dependence_blocks.specs.KeptLines.{is_kept_line, HasRange}
 
 -- ---- bytes that stand nowhere
@@ -113,18 +113,34 @@ spaced_kept (w ∷ []) h = h.0
 spaced_kept (w ∷ (v ∷ ws)) h = kept_both w (32 ∷ spaced (v ∷ ws)) h.0 (kept_both (32 ∷ []) (spaced (v ∷ ws)) refl (spaced_kept (v ∷ ws) h.1))
 
 numbers_kept : (e : Dep) → HasRange e → (last : List ℕ) → is_kept_line last ≡ true → AllKept (map decimal (entry_numbers e) ++ last ∷ [])
-numbers_kept e h last k =
-    (decimal_kept e.source (omega (arith, h.source)), decimal_kept e.target (omega (arith, h.target)), decimal_kept e.source_access (omega (arith, h.source_access)),
-      decimal_kept e.target_access (omega (arith, h.target_access)), decimal_kept e.source_part (omega (arith, h.source_part)),
-      decimal_kept e.target_part (omega (arith, h.target_part)), decimal_kept e.level (omega (arith, h.level)), k, tt)
+numbers_kept e h last k = (
+  decimal_kept e.source (omega (arith, h.source)),
+  (
+    decimal_kept e.target (omega (arith, h.target)),
+    (
+      decimal_kept e.source_access (omega (arith, h.source_access)),
+      (
+        decimal_kept e.target_access (omega (arith, h.target_access)),
+        (
+          decimal_kept e.source_part (omega (arith, h.source_part)),
+          (decimal_kept e.target_part (omega (arith, h.target_part)), (decimal_kept e.level (omega (arith, h.level)), (k, tt))),
+        ),
+      ),
+    ),
+  ),
+)
 
 head_kept : (e : Dep) → HasRange e → (verdict : List ℕ) → is_kept_line verdict ≡ true → is_kept_line (head_line e verdict) ≡ true
 head_kept e h verdict k = spaced_kept (entry_words e ++ verdict ∷ []) (kind_kept e.kind, numbers_kept e h verdict k)
 
-counts_kept : (ns : List ℕ) → ((k : ℕ) → get_or ns k 0 < 10 ^ 64) → is_kept_line (flat_map layout.spaced_count ns) ≡ true
+abbrev pub AllSmall : List ℕ → Type 0
+AllSmall [] = Unit {0}
+AllSmall (n ∷ ns) = (n < 10 ^ 64) × AllSmall ns
+
+counts_kept : (ns : List ℕ) → AllSmall ns → is_kept_line (flat_map layout.spaced_count ns) ≡ true
 counts_kept [] h = refl
 counts_kept (n ∷ ns) h =
-    kept_both (32 ∷ decimal n) (flat_map layout.spaced_count ns) (kept_both (32 ∷ []) (decimal n) refl (decimal_kept n (h 0))) (counts_kept ns (λ k. h (suc k)))
+    kept_both (32 ∷ decimal n) (flat_map layout.spaced_count ns) (kept_both (32 ∷ []) (decimal n) refl (decimal_kept n h.0)) (counts_kept ns h.1)
 
 entries_kept : (zs : List ℤ) → ((k : ℕ) → unsigned_abs (entry zs k) < 2 ^ 127) → is_kept_line (flat_map layout.spaced zs) ≡ true
 entries_kept [] h = refl
@@ -165,22 +181,7 @@ header_kept system h small =
     let within : columns system.shape ≤ 4 * 65536 = omega (arith, l.outputs, l.inputs, l.locals, l.parameters) in
     kept_both (decimal (length system.rows)) _ (decimal_kept (length system.rows) (omega (arith, small)))
     (counts_kept ((columns system.shape + 2) ∷ (system.shape.outputs ∷ (system.shape.inputs ∷ (system.shape.locals ∷ (system.shape.parameters ∷ [])))))
-    (λ k. elim k [
-      | zero ↦ omega (arith, within)
-      | suc k ↦ elim k [
-        | zero ↦ omega (arith, l.outputs)
-        | suc k ↦ elim k [
-          | zero ↦ omega (arith, l.inputs)
-          | suc k ↦ elim k [
-            | zero ↦ omega (arith, l.locals)
-            | suc k ↦ elim k [
-              | zero ↦ omega (arith, l.parameters)
-              | suc k ↦ omega arith
-            ]
-          ]
-        ]
-      ]
-    ]))
+    (omega (arith, within), (omega (arith, l.outputs), (omega (arith, l.inputs), (omega (arith, l.locals), (omega (arith, l.parameters), tt))))))
 
 lines_kept : (system : System) (c : Option (List ℤ)) → IsWellFormed system.shape system.rows → length system.rows < 2 ^ 64
     → IfSome c AreCoefficients → AllKept (verdict_lines system c)

@@ -1,6 +1,6 @@
 -- The block of dependences as lines of text. A system is kept with its rows, or dropped with the Farkas multipliers that
 -- refute it: here an entry's certificate is None where it is kept.
-use Rattle.std.specs.Prelude.{ℤ, ℕ, ◌≡◌, List, [], ◌∷◌, ◌++◌, map, length, codes, Option, Some, None}
+use Rattle.std.specs.Prelude.{ℤ, ℕ, List, [], ◌∷◌, ◌++◌, map, length, codes, Option, Some, None}
 use Rattle.std.specs.Fmt.{decimal}
 use Rattle.suite_base.specs.Words.{spaced}
 use Rattle.relation_core.specs.Systems.{System}

@@ -1,5 +1,5 @@
 -- Lines that an extension can keep: a line without a newline and without `<` ends no extension.
-use Rattle.std.specs.Prelude.{ℕ, ◌<◌, ◌^◌, Bool, true, ◌&&◌, List, [], ◌∷◌}
+use Rattle.std.specs.Prelude.{ℕ, ◌<◌, ◌^◌, Bool, ◌&&◌, List}
 use Rattle.scop_core.specs.Printable.{has_no}
 use Rattle.dependence_systems.specs.declared.deps.Dep.{Dep}
 

@@ -1,14 +1,19 @@
 //! The lines of the block.
 
-ghost use Rattle.std.specs.Prelude.{◌≡◌, [], ◌∷◌, ◌++◌, length, map, IfOk, OnOk};
+ghost use Rattle.std.specs.Prelude.{◌≡◌, ◌<◌, ◌^◌, [], ◌∷◌, ◌++◌, length, map, true, IfOk, IfSome, OnOk};
 ghost use Rattle.std.specs.Fmt.{decimal};
 ghost use Rattle.relation_core.specs.Layouts.{header_text, row_text};
 ghost use Rattle.farkas_cert.specs.Texts.{certificate_line};
+ghost use Rattle.relation_core.specs.Systems.{IsWellFormed};
+ghost use Rattle.row_core.specs.Rows.{AreCoefficients};
+ghost use Rattle.scop_core.specs.Printable.{are_kept_lines};
 ghost use Rattle.dependence_blocks.specs.Blocks as spec;
+ghost use Rattle.dependence_blocks.specs.KeptLines.{HasRange};
 
 use dependence_systems::{Dep, DepKind};
 use farkas_cert::{Certificate, print_multipliers};
 use relation_core::{Part, PartRow, print_header, print_row};
+use row_core::Coeff;
 use scop_core::Extension;
 use std::alloc::Global;
 use suite_base::{List, NoMemory, Text};
@@ -24,6 +29,14 @@ pub fn block(alloc: Global, lines: List<Text>) -> Result<Extension, NoMemory>
 
 /// Appends the first line, the number of systems. On want of memory the lines are as before.
 pub fn print_count(alloc: Global, lines: &mut List<Text>, count: usize) -> Result<(), NoMemory>
+    ensures lines { OnOk result (lines.new ≡ lines.old ++ decimal count ∷ []) }
+    ensures kept { OnOk result (are_kept_lines spec.block_name lines.old ≡ true → are_kept_lines spec.block_name lines.new ≡ true) }
+{
+    push_count(alloc, lines, count)
+}
+
+// Appends a line with a count.
+fn push_count(alloc: Global, lines: &mut List<Text>, count: usize) -> Result<(), NoMemory>
     ensures { OnOk result (lines.new ≡ lines.old ++ decimal count ∷ []) }
 {
     let mut line = Text::new(alloc);
@@ -34,6 +47,23 @@ pub fn print_count(alloc: Global, lines: &mut List<Text>, count: usize) -> Resul
 /// Appends the lines of one entry: its head, then the system's header and rows where it is kept, or the
 /// certificate's multipliers where it is dropped. On want of memory some lines may have been appended.
 pub fn print_entry(
+    alloc: Global,
+    lines: &mut List<Text>,
+    entry: &Dep,
+    system: &Part,
+    certificate: &Option<Certificate>,
+) -> Result<(), NoMemory>
+    ensures lines { OnOk result (lines.new ≡ lines.old ++ spec.entry_lines entry.now system.now certificate.now) }
+    ensures kept { OnOk result (are_kept_lines spec.block_name lines.old ≡ true → are_kept_lines spec.block_name lines.new ≡ true) }
+{
+    entry_has_range(entry);
+    system_has_range(system);
+    certificate_has_range(certificate);
+    print_lines(alloc, lines, entry, system, certificate)
+}
+
+// Appends the lines of one entry.
+fn print_lines(
     alloc: Global,
     lines: &mut List<Text>,
     entry: &Dep,
@@ -127,4 +157,47 @@ fn row_line(alloc: Global, row: &PartRow) -> Result<Text, NoMemory>
     let mut line = Text::new(alloc);
     print_row(&mut line, row)?;
     Ok(line)
+}
+
+// The numbers of an entry fit their type: a fact for contracts.
+fn entry_has_range(entry: &Dep)
+    ensures { HasRange entry.now }
+{
+    let Dep {
+        kind: _,
+        source: _source,
+        target: _target,
+        source_access: _source_access,
+        target_access: _target_access,
+        source_part: _source_part,
+        target_part: _target_part,
+        level: _level,
+    } = *entry;
+}
+
+// The rows of a system are as wide as its shape and can be counted: a fact for contracts.
+fn system_has_range(system: &Part)
+    ensures formed { IsWellFormed system.now.shape system.now.rows }
+    ensures count { length system.now.rows < 2 ^ 64 }
+{
+    let _rows = system.row_count();
+}
+
+// The multipliers of a certificate are coefficients: a fact for contracts.
+fn certificate_has_range(certificate: &Option<Certificate>)
+    ensures { IfSome certificate.now AreCoefficients }
+{
+    match certificate {
+        None => {}
+        Some(found) => multipliers_have_range(found.as_slice()),
+    }
+}
+
+// The same for a list.
+fn multipliers_have_range(multipliers: &[Coeff])
+    ensures { AreCoefficients multipliers.now }
+{
+    for multiplier in multipliers {
+        let _value = multiplier.value();
+    }
 }
