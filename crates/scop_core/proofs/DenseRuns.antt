@@ -17,7 +17,7 @@ use Rattle.scop_core.specs.RunLaws.{DenseVectorsAreTheirs, KeptMeaningHasSameRun
 use Rattle.scop_core.proofs.DenseOrders.{SameOrder, dense_first, dense_firsts, in_heads, in_rests, in_one_rest, dense_keeps_order, both_nothing}
 
 -- statements under a map
-at_map : (f : Statement → Statement) (statements : List Statement) (k : ℕ) → statement_at (map f statements) k ≡ option_map f (statement_at statements k)
+pub at_map : (f : Statement → Statement) (statements : List Statement) (k : ℕ) → statement_at (map f statements) k ≡ option_map f (statement_at statements k)
 at_map f statements zero = refl
 at_map f statements (suc k) = slice_get-map f statements k
 

@@ -16,6 +16,8 @@ pub mod MappedLists
 pub mod RunOrders
 pub mod DenseOrders
 pub mod DenseRuns
+pub mod MappedRuns
+pub mod AlikeRuns
 pub mod SolvedForms
 pub mod SolvedShapes
 pub mod SolvedPieces

@@ -6,6 +6,7 @@ pub mod Held
 pub mod KeptLimits
 pub mod Layouts
 pub mod LevelOrder
+pub mod MappedRuns
 pub mod Meaning
 pub mod Memory
 pub mod Order

@@ -1,6 +1,7 @@
 //! The laws of runs on which dependences and edits rest, for every SCoP: functions that do nothing, and
 //! whose contracts are the laws.
 
+ghost use Rattle.scop_core.specs.MappedRuns.{MappedRunExists, NothingReversedKeepsMemory, StatementsMeanAll, MeaningIsKeptOn};
 ghost use Rattle.scop_core.specs.RunLaws.{RunExists, PrecedesIsBefore, SameEventsGiveOneMemory, SameEventsTouch, BeforeByLevels, BeforeIsAtALevel, OneVectorHasAllLoops, LoopsAreCommon, LevelsAreListed, LevelsByEntries, SchedulesOrderAtALevel, DenseKeepsOrder, DenseKeepsLevels, DenseVectorsAreTheirs, KeptMeaningHasSameRuns, DenseKeepsMeaning, DenseKeepsRuns, DenseKeepsSchedulesValid};
 
 /// A run exists where the schedules are valid, a list has exactly the instances as members, and equal
@@ -99,4 +100,27 @@ pub fn dense_keeps_runs()
 /// Valid schedules stay valid when they are densely numbered.
 pub fn dense_keeps_schedules_valid()
     ensures { DenseKeepsSchedulesValid }
+{}
+
+/// Where the instances of one SCoP are those of another that has a run, by a map that keeps events, its
+/// schedules are valid and no two of its instances have one stamp, it has a run. Nothing is asked of limits.
+pub fn mapped_run_exists()
+    ensures { MappedRunExists }
+{}
+
+/// Where such a map joins two SCoPs, both have a run, and no two instances that touch are ordered
+/// the other way around in the second one, both runs give one memory.
+pub fn nothing_reversed_keeps_memory()
+    ensures { NothingReversedKeepsMemory }
+{}
+
+/// Two SCoPs with the same statements but for their extensions mean the same.
+pub fn statements_mean_all()
+    ensures { StatementsMeanAll }
+{}
+
+/// Where one SCoP keeps the meaning of a second one, and that keeps the meaning of a third one, the
+/// first one keeps the meaning of the third one.
+pub fn meaning_is_kept_on()
+    ensures { MeaningIsKeptOn }
 {}
