@@ -10,14 +10,14 @@ use Rattle.c_lexer.proofs.RegionLemmas.{Counts, counts, bytes_within, bytes_over
 use Rattle.c_lexer.proofs.PlaceLemmas.{placed, place_of, place_is}
 
 pub record OneBound (bytes : List ℕ) (s : code.Standing) : Type 0 where
-  pub rest : length s.rest.rest.now ≤ length bytes
+  pub rest : length s.rest ≤ length bytes
   pub line : s.lines_before ≤ length bytes
 
 pub one_bound : (bytes b : List ℕ) (s : code.Standing) → b ≡ bytes → first_line (is_pragma Scop) (lines b) ≡ Some (seen s) → OneBound bytes s
 one_bound bytes b s q e =
     let k : Counts (lines b) (seen s) = counts (is_pragma Scop) (lines b) (seen s) e in
     let w = bytes_within b in
-    let v = bytes_over s.rest.rest.now in
+    let v = bytes_over s.rest in
     let n = ap length q in
     record { rest = omega (arith, k.whole, k.before, k.few); line = omega (arith, k.whole, k.before, k.few) }
 
@@ -28,10 +28,10 @@ pub record TwoBounds (bytes : List ℕ) (s u : code.Standing) : Type 0 where
   pub to : s.past + u.at ≤ length bytes
 
 pub two_bounds : (goes : List ℕ → Bool) (bytes b : List ℕ) (s u : code.Standing) → b ≡ bytes → first_line (is_pragma Scop) (lines b) ≡ Some (seen s)
-    → first_line goes (lines s.rest.rest.now) ≡ Some (seen u) → TwoBounds bytes s u
+    → first_line goes (lines s.rest) ≡ Some (seen u) → TwoBounds bytes s u
 two_bounds goes bytes b s u q e f =
     let k : Counts (lines b) (seen s) = counts (is_pragma Scop) (lines b) (seen s) e in
-    let j : Counts (lines s.rest.rest.now) (seen u) = counts goes (lines s.rest.rest.now) (seen u) f in
+    let j : Counts (lines s.rest) (seen u) = counts goes (lines s.rest) (seen u) f in
     let w = bytes_within b in
     let n = ap length q in
     record {
@@ -42,10 +42,10 @@ two_bounds goes bytes b s u q e f =
     }
 
 pub region_is : (bytes b : List ℕ) (s u : code.Standing) → b ≡ bytes → first_line (is_pragma Scop) (lines b) ≡ Some (seen s)
-    → first_line (is_pragma Endscop) (lines s.rest.rest.now) ≡ Some (seen u) → first_line (is_pragma Scop) (lines s.rest.rest.now) ≡ None
+    → first_line (is_pragma Endscop) (lines s.rest) ≡ Some (seen u) → first_line (is_pragma Scop) (lines s.rest) ≡ None
     → Ok (record { from = s.past; to = s.past + u.at; first = record { line = s.lines_before + 2; column = 1 } }) ≡ region_of bytes
 region_is bytes b s u q e f g =
-    sym (ap region_of (sym q) ∙ (ap region_from e ∙ (ap (λ x. region_between (seen s) x (first_line (is_pragma Scop) (lines s.rest.rest.now))) f ∙ ap (λ x. region_between (seen s) (Some (seen u)) x) g)))
+    sym (ap region_of (sym q) ∙ (ap region_from e ∙ (ap (λ x. region_between (seen s) x (first_line (is_pragma Scop) (lines s.rest))) f ∙ ap (λ x. region_between (seen s) (Some (seen u)) x) g)))
 
 pub region_placed : (bytes b : List ℕ) (s : code.Standing) → b ≡ bytes → first_line (is_pragma Scop) (lines b) ≡ Some (seen s)
     → s.past ≤ length bytes → place_of (s.lines_before + 2) 1 ≡ place_at bytes s.past

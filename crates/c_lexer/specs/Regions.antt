@@ -20,7 +20,7 @@ pub record Standing : Type 0 where
 
 -- what the code's answer stands for
 abbrev pub seen : code.Standing → Standing
-seen s = record { lines_before = s.lines_before; at = s.at; past = s.past; rest = lines s.rest.rest.now }
+seen s = record { lines_before = s.lines_before; at = s.at; past = s.past; rest = lines s.rest }
 
 -- the same with one line more in front
 abbrev pub behind : List ℕ → Option Standing → Option Standing

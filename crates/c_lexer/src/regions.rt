@@ -39,13 +39,13 @@ pub fn find_region(bytes: &[u8]) -> Result<Span, RegionFail>
     ensures within { IfOk result (λ span. (span.from ≤ span.to) × (span.to ≤ length bytes.now)) }
     ensures placed { IfOk result (λ span. span.first ≡ place_at bytes.now span.from) }
 {
-    let Some(scop) = first_line(Lines::new(bytes), Pragma::Scop) else {
+    let Some(scop) = first_line(&Lines::new(bytes), Pragma::Scop) else {
         return Err(RegionFail::NoRegion);
     };
-    let Some(endscop) = first_line(scop.rest, Pragma::Endscop) else {
+    let Some(endscop) = first_line(&scop.rest, Pragma::Endscop) else {
         return Err(RegionFail::OpenRegion(scop.lines_before + 1));
     };
-    if let Some(second) = first_line(scop.rest, Pragma::Scop) {
+    if let Some(second) = first_line(&scop.rest, Pragma::Scop) {
         return Err(RegionFail::SecondRegion(scop.lines_before + second.lines_before + 2));
     }
     let first = Place {
@@ -60,7 +60,7 @@ pub fn find_region(bytes: &[u8]) -> Result<Span, RegionFail>
 }
 
 /// Where a line stands among others.
-#[derive(Clone, Copy)]
+#[derive(Drop)]
 struct Standing<'a> {
     lines_before: u32,
     at: usize,
@@ -68,12 +68,13 @@ struct Standing<'a> {
     rest: Lines<'a>,
 }
 
-/// The first line of `rest` that is this pragma.
-fn first_line(mut rest: Lines<'_>, wanted: Pragma) -> Option<Standing<'_>>
-    requires { length rest.rest.now < 2 ^ 32 - 1 }
-    ensures none { IfNone result (spec.first_line (pragma.is_pragma wanted) (lines rest.entry.rest.now) ≡ None) }
-    ensures found { IfSome result (λ s. spec.first_line (pragma.is_pragma wanted) (lines rest.entry.rest.now) ≡ Some (spec.seen s)) }
+/// The first line of `among` that is this pragma.
+fn first_line<'a>(among: &Lines<'a>, wanted: Pragma) -> Option<Standing<'a>>
+    requires { length among.now < 2 ^ 32 - 1 }
+    ensures none { IfNone result (spec.first_line (pragma.is_pragma wanted) (lines among.now) ≡ None) }
+    ensures found { IfSome result (λ s. spec.first_line (pragma.is_pragma wanted) (lines among.now) ≡ Some (spec.seen s)) }
 {
+    let mut rest = among.copy();
     let mut lines_before = 0;
     let mut at = 0;
     while let Some(line) = rest.next() {

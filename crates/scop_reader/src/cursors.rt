@@ -28,9 +28,9 @@ impl<'a> Model for Cursor<'a> {
 
     ghost Value = { Rest };
 
-    ghost view = { λ c. record { number = c.number; lines = lines c.left.rest.now } };
+    ghost view = { λ c. record { number = c.number; lines = lines c.left } };
 
-    ghost invariant = { λ c. c.number + extent (lines c.left.rest.now) < 2 ^ 32 };
+    ghost invariant = { λ c. c.number + extent (lines c.left) < 2 ^ 32 };
 }
 
 impl<'a> Cursor<'a> {
@@ -51,7 +51,7 @@ impl<'a> Cursor<'a> {
     {
         Cursor {
             number: self.number,
-            left: self.left,
+            left: self.left.copy(),
         }
     }
 
@@ -59,7 +59,7 @@ impl<'a> Cursor<'a> {
     pub fn next_line(&mut self) -> Option<TextLine<'a>>
         ensures { TakesLine self.old result self.new }
     {
-        let mut left = self.left;
+        let mut left = self.left.copy();
         let Some(bytes) = left.next() else {
             return None;
         };

@@ -4,35 +4,60 @@ ghost use Rattle.std.specs.Prelude.{◌≡◌, [], ◌∷◌, MatchOption, rever
 ghost use Rattle.std.specs.List.{prefix_len};
 ghost use Rattle.suite_base.specs.Lines.{is_blank, lines, trim, trim_front};
 
+use std::marker::Model;
+
 /// The lines of a text that are still to come. A newline ends a line and is no part of it; what
-/// follows the last newline is a line where it is not empty.
-#[derive(Clone, Copy, Debug)]
+/// follows the last newline is a line where it is not empty. Contracts see the bytes that are left.
+#[derive(Debug, Drop)]
 pub struct Lines<'a> {
     rest: &'a [u8],
+}
+
+impl<'a> Model for Lines<'a> {
+    ghost use Rattle.std.specs.Prelude.{List, ℕ};
+
+    ghost Value = { List ℕ };
+
+    ghost view = { λ left. left.rest.now };
 }
 
 impl<'a> Lines<'a> {
     /// All lines of `text`.
     pub fn new(text: &'a [u8]) -> Lines<'a>
-        ensures { result.rest.now ≡ text.now }
+        ensures { result ≡ text.now }
     {
         Lines { rest: text }
     }
 
+    /// The same lines once more.
+    pub fn copy(&self) -> Lines<'a>
+        ensures { result ≡ self.now }
+    {
+        Lines { rest: self.rest }
+    }
+
     /// Takes the next line, without its newline; `None` exactly where none is left.
     pub fn next(&mut self) -> Option<&'a [u8]>
-        ensures { MatchOption result (lines self.old.rest.now ≡ []) (λ line. lines self.old.rest.now ≡ line.now ∷ lines self.new.rest.now) }
+        ensures { MatchOption result (lines self.old ≡ []) (λ line. lines self.old ≡ line.now ∷ lines self.new) }
     {
-        let length = line_length(self.rest);
-        let (line, rest) = self.rest.split_at(length);
-        match rest {
-            [_, after @ ..] => {
-                self.rest = after;
-                Some(line)
-            }
-            [] => {
-                self.rest = rest;
-                if line.is_empty() { None } else { Some(line) }
+        let (line, rest) = cut_line(self.rest)?;
+        self.rest = rest;
+        Some(line)
+    }
+}
+
+// The first line of `text` without its newline, and what follows it; `None` exactly where no line is left.
+fn cut_line(text: &[u8]) -> Option<(&[u8], &[u8])>
+    ensures { MatchOption result (lines text.now ≡ []) (λ cut. lines text.now ≡ cut.0.now ∷ lines cut.1.now) }
+{
+    let (line, rest) = text.split_at(line_length(text));
+    match rest {
+        [_, after @ ..] => Some((line, after)),
+        [] => {
+            if line.is_empty() {
+                None
+            } else {
+                Some((line, rest))
             }
         }
     }

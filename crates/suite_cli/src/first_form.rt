@@ -122,7 +122,7 @@ fn is_between(open: &[u8], close: &[u8]) -> bool
 
 /// The next line that does not consist of blanks alone, without the blanks at its ends.
 fn next_content<'a>(text: &mut Lines<'a>) -> Option<&'a [u8]>
-    ensures { MatchOption result (spec.content_of (lines text.old.rest.now) ≡ []) (λ line. spec.content_of (lines text.old.rest.now) ≡ line.now ∷ spec.content_of (lines text.new.rest.now)) }
+    ensures { MatchOption result (spec.content_of (lines text.old) ≡ []) (λ line. spec.content_of (lines text.old) ≡ line.now ∷ spec.content_of (lines text.new)) }
 {
     while let Some(line) = text.next() {
         let line = trimmed(line);

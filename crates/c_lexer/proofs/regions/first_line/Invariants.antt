@@ -7,10 +7,10 @@ use Rattle.c_lexer.proofs.regions.first_line.Given as goal
 
 abbrev pub invariant-loop-line : goal.invariant-loop-line
 invariant-loop-line l = record {
-  same : shifted l.lines_before l.at (first_line (is_pragma l.wanted) (lines l.rest.rest.now)) ≡ first_line (is_pragma l.wanted) (lines l.fn.rest.rest.now);
+  same : shifted l.lines_before l.at (first_line (is_pragma l.wanted) (lines l.rest)) ≡ first_line (is_pragma l.wanted) (lines l.fn.among);
   few : l.lines_before ≤ l.at;
-  room : l.at + bytes_of (lines l.rest.rest.now) ≡ bytes_of (lines l.fn.rest.rest.now);
+  room : l.at + bytes_of (lines l.rest) ≡ bytes_of (lines l.fn.among);
 }
 
 abbrev pub decreases-loop-line : goal.decreases-loop-line
-decreases-loop-line l = length (lines l.rest.rest.now)
+decreases-loop-line l = length (lines l.rest)

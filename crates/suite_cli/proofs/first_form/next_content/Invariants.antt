@@ -4,7 +4,7 @@ use Rattle.suite_cli.specs.FirstForm.{content_of}
 use Rattle.suite_cli.proofs.first_form.next_content.Given as goal
 
 abbrev pub invariant-loop-line : goal.invariant-loop-line
-invariant-loop-line l = content_of (lines l.text.rest.now) ≡ content_of (lines l.fn.text.rest.now)
+invariant-loop-line l = content_of (lines l.text) ≡ content_of (lines l.fn.text)
 
 abbrev pub decreases-loop-line : goal.decreases-loop-line
-decreases-loop-line l = length (lines l.text.rest.now)
+decreases-loop-line l = length (lines l.text)
