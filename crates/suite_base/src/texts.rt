@@ -1,6 +1,6 @@
 //! A growing text that contracts see as the list of its bytes.
 
-ghost use Rattle.std.specs.Prelude.{◌≡◌, ◌<◌, [], ◌∷◌, ◌++◌, length, OnOk, OnErr};
+ghost use Rattle.std.specs.Prelude.{◌≡◌, ◌<◌, [], ◌∷◌, ◌++◌, length, IfOk, OnOk, OnErr};
 ghost use Rattle.std.specs.Fmt.{signed_decimal};
 
 use crate::memory::NoMemory;
@@ -30,6 +30,15 @@ impl Text {
         Text {
             bytes: Vec::new(alloc),
         }
+    }
+
+    /// A text of these bytes.
+    pub fn from_bytes(alloc: Global, bytes: &[u8]) -> Result<Text, NoMemory>
+        ensures { IfOk result (λ text. text ≡ bytes.now) }
+    {
+        let mut text = Text::new(alloc);
+        text.push_bytes(bytes)?;
+        Ok(text)
     }
 
     /// The number of bytes.
