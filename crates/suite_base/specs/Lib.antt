@@ -4,3 +4,4 @@ pub mod Numbers
 pub mod Words
 pub mod Refusals
 pub mod Limits
+pub mod Bytes
