@@ -1,7 +1,8 @@
 -- The files of a command, read one after the other.
 use Rattle.std.proofs.Common.{◌≡◌, ◌⊎◌, inl, inr, ℕ, zero, suc, ◌+◌, ◌<◌, ◌≤◌, Bool, true, false, ◌||◌, ◌&&◌, List, [], ◌∷◌, ◌++◌, Option, Some, None, IfSome, length, slice_get, refl, ap, sym, ◌∙◌, subst, arith}
-use Rattle.std.specs.List.{count_by}
+use Rattle.std.specs.List.{All, count_by}
 use Rattle.std.proofs.lemmas.List.{append-nil}
+use Rattle.std.proofs.lemmas.List.Elements.{All-cons, All-nil}
 use Rattle.std.proofs.lemmas.List.Folds.{list_all-append, list_any-append}
 use Rattle.std.proofs.lemmas.List.Sums.{sum_by-append}
 use Rattle.suite_base.specs.Outside.{HasFault, IsMissing, Took, Under}
@@ -87,6 +88,13 @@ same_number P [] [] r = refl
 same_number P (f ∷ files) (t ∷ texts) r = let n = same_number P files texts r.1 in omega arith
 same_number P [] (t ∷ texts) r = absurd r
 same_number P (f ∷ files) [] r = absurd r
+
+-- each text that was read is short enough
+pub all_short : (before now : Inputs) (files texts : List (List ℕ)) → AreRead before now files texts → All (λ text. length text ≤ max_input) texts
+all_short before now [] [] r = All-nil (λ text. length text ≤ max_input)
+all_short before now (f ∷ files) (t ∷ texts) r = All-cons (λ text. length text ≤ max_input) t texts r.0.short (all_short before now files texts r.1)
+all_short before now [] (t ∷ texts) r = absurd r
+all_short before now (f ∷ files) [] r = absurd r
 
 -- what is said of the bytes that a word names is said later, where these are the same
 named_before : (before now : Inputs) (file : List ℕ) (P : List ℕ → Type 0) → now.held ≡ before.held → (is_input file ≡ true → now.left ≡ before.left) → Named now file P → Named before file P
