@@ -6,8 +6,6 @@
 mod adapter_tests;
 mod adapters;
 mod commands;
-#[cfg(test)]
-mod feature_tests;
 mod file_words;
 mod first_form;
 mod messages;
@@ -15,8 +13,6 @@ mod names;
 mod outcomes;
 mod readings;
 mod runs;
-#[cfg(test)]
-mod scop_tests;
 #[cfg(test)]
 mod test_runs;
 #[cfg(test)]

@@ -86,19 +86,3 @@ pub fn run_suite(
     let outcome = suite(alloc, &words, &mut files, &mut source, &mut out, &mut err);
     Ok(Run { outcome, out, err })
 }
-
-/// Runs `command -` on these bytes, with no file held but an empty one.
-pub fn run_input(alloc: Global, command: &str, input: &[u8]) -> Result<Run, NoMemory> {
-    run_suite(
-        alloc,
-        &[command, "-"],
-        Text::new(alloc),
-        text_of(alloc, input)?,
-        NO_FAILS,
-    )
-}
-
-/// Runs a command on the file of [`NAME`] with these bytes, with nothing on standard input.
-pub fn run_file(alloc: Global, command: &str, file: Text, fails: Fails) -> Result<Run, NoMemory> {
-    run_suite(alloc, &[command, NAME], file, Text::new(alloc), fails)
-}
