@@ -14,3 +14,4 @@ pub mod TurnSteps
 pub mod Meanings
 mod Checks
 mod ScopChecks
+mod RefusalChecks

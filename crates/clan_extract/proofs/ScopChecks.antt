@@ -13,29 +13,29 @@ use Rattle.clan_extract.specs.Scops.{scop_of, is_head, are_affine_nodes}
 use Rattle.clan_extract.specs.Translation.{one_loop_region, one_loop_scop}
 use Rattle.clan_extract.proofs.Checks.{sample}
 
-abbrev i : List ℕ
+abbrev pub i : List ℕ
 i = codes "i"
 
-abbrev j : List ℕ
+abbrev pub j : List ℕ
 j = codes "j"
 
-abbrev N : List ℕ
+abbrev pub N : List ℕ
 N = codes "N"
 
-abbrev A : List ℕ
+abbrev pub A : List ℕ
 A = codes "A"
 
-abbrev B : List ℕ
+abbrev pub B : List ℕ
 B = codes "B"
 
 -- A[e] = 0; and B[e] = 0;
-abbrev set : List ℕ → Expression → Nodes
+abbrev pub set : List ℕ → Expression → Nodes
 set array e = Then (Assign (record { text = codes "A[e] = 0;"; target = record { name = array; subscripts = e ∷ [] }; updates = false; right = [] })) NoNodes
 
-abbrev one : Node → Nodes
+abbrev pub one : Node → Nodes
 one node = Then node NoNodes
 
-abbrev loop : List ℕ → Expression → Comparison → Expression → ℤ → Nodes → Nodes
+abbrev pub loop : List ℕ → Expression → Comparison → Expression → ℤ → Nodes → Nodes
 loop name start comparison bound step body = one (For name start comparison bound step body)
 
 -- the shape and the rows of a part, as they are printed
@@ -175,7 +175,7 @@ shadowed : domains [] (loop i (Number 0) IsLess (Number 9) (pos 1) (loop i (Name
 shadowed = refl
 
 -- seven != make 128 parts
-abbrev many : ℕ → Condition
+abbrev pub many : ℕ → Condition
 many zero = Compare IsUnequal (Name i) (Number 0)
 many (suc k) = Both (Compare IsUnequal (Name i) (Number 0)) (many k)
 

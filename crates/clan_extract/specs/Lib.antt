@@ -5,3 +5,4 @@ pub mod Forms
 pub mod Placements
 pub mod Constraints
 pub mod Scops
+pub mod Refusals
