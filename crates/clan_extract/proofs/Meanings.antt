@@ -13,7 +13,7 @@ use Rattle.scop_core.specs.declared.statements.Statement.{Statement}
 use Rattle.clan_extract.specs.Regions.{Node, For, If, Block, Assign, Nodes, NoNodes, Then}
 use Rattle.clan_extract.specs.Execution.{Binding, Setting}
 use Rattle.clan_extract.specs.Placements.{Head, Round, Loop, Test, Placed, in_loop, in_test, placed, placed_all, children, children_of_all, loop_names, directions}
-use Rattle.clan_extract.specs.Scops.{diagonal, statement, scop_of, is_head, is_condition, are_affine, have_affine_subscripts, is_affine_node, are_affine_nodes, ScopMeansItsRegion}
+use Rattle.clan_extract.specs.Scops.{diagonal, statement, scop_of, is_head, is_condition, are_affine, have_affine_subscripts, is_affine_node, are_affine_nodes, ScopMeansItsRegion, ScopHasItsNames}
 use Rattle.clan_extract.specs.Translation.{RunsAs}
 use Rattle.clan_extract.proofs.Forms.{both_true, names, values, dot_zeros}
 use Rattle.clan_extract.proofs.Members.{in_append, in_map, of_map, Numbered, numbered_in}
@@ -213,3 +213,6 @@ module _ (setting : Setting) (region : Nodes) (ok : are_affine_nodes region ≡ 
 
 pub scop_means : ScopMeansItsRegion
 scop_means setting region ok size = runs_as setting region ok size
+
+pub scop_names : ScopHasItsNames
+scop_names parameters arrays region = record { parameters_are = refl; arrays_are = refl }

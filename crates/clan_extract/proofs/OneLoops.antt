@@ -8,7 +8,7 @@ use Rattle.scop_core.specs.Order.{Before}
 use Rattle.scop_core.specs.Sequences.{In, Rising, fold_steps}
 use Rattle.scop_core.specs.Memory.{App, NoTerms, Memory, initial, stored}
 use Rattle.scop_core.specs.Meaning.{Instance, IsInstance, affine_at, stamp, step, Run}
-use Rattle.clan_extract.specs.Regions.{IsLess, Name, parameters_of, first_occurrences, without}
+use Rattle.clan_extract.specs.Regions.{IsLess, Name, parameters_of, first_occurrences, without, names_if_any}
 use Rattle.clan_extract.specs.Execution.{value_of, parameter_value, loop_values, AsLongAs, run_nodes, setting_of}
 use Rattle.clan_extract.specs.Translation.{RunsAs, OneLoop, one_loop_body, one_loop_region, the_iterator, one_loop_domain, one_loop_scop, OneLoopMeansItsRegion, OneLoopHasItsNames}
 use Rattle.clan_extract.proofs.Loops.{loops_run, values_within, values_all}
@@ -133,4 +133,4 @@ one_loop_means l (N ∷ []) e = runs_as l N
 one_loop_means l (N ∷ (w ∷ ws)) e = absurd (omega (arith, e, ap length (parameters_are l (pos 0))))
 
 pub one_loop_names : OneLoopHasItsNames
-one_loop_names l = record { parameters = ap Some (sym (parameters_are l (pos 0))); arrays = refl }
+one_loop_names l = record { parameters_are = ap names_if_any (sym (parameters_are l (pos 0))); arrays_are = refl }

@@ -1,5 +1,5 @@
 -- The C region as a tree, and the numbers of its parameters and arrays by first occurrence.
-use Rattle.std.specs.Prelude.{ℕ, List, [], ◌∷◌, ◌++◌, ℤ, Bool, true, false, cond, not, ◌||◌, bytes_eq, filter, map, pos, ◌+ℤ◌}
+use Rattle.std.specs.Prelude.{ℕ, List, [], ◌∷◌, ◌++◌, ℤ, Bool, true, false, cond, not, ◌||◌, bytes_eq, filter, map, pos, ◌+ℤ◌, Option, None, Some}
 
 -- an expression at a place of control: a subscript, a start, a bound or a side of a comparison
 pub data Expression : Type 0 where
@@ -164,3 +164,8 @@ number_in (x ∷ xs) name = cond (bytes_eq x name) (pos 1) (pos 1 +ℤ number_in
 abbrev pub numbered : ℤ → List (List ℕ) → List (ℤ × List ℕ)
 numbered k [] = []
 numbered k (x ∷ xs) = (k, x) ∷ numbered (k +ℤ pos 1) xs
+
+-- a list of names, None where there are none
+abbrev pub names_if_any : List (List ℕ) → Option (List (List ℕ))
+names_if_any [] = None
+names_if_any (x ∷ xs) = Some (x ∷ xs)

@@ -9,12 +9,12 @@ use Rattle.scop_core.specs.declared.accesses.AccessKind.{AccessKind}
 use Rattle.scop_core.specs.declared.accesses.AccessKind.TheVariants.{Read, Write}
 use Rattle.scop_core.specs.declared.statements.Statement.{Statement}
 use Rattle.scop_core.specs.ScopData.{ScopData}
-use Rattle.clan_extract.specs.Regions.{Expression, Number, Maximum, Minimum, Ceiling, Floor, Remainder, Comparison, IsLess, IsLessOrEqual, IsGreater, IsGreaterOrEqual, IsEqual, IsUnequal, Condition, Compare, Both, Either, Opposite, Reference, Assignment, Node, For, If, Block, Assign, Nodes, NoNodes, Then, array_references, number_in, numbered}
+use Rattle.clan_extract.specs.Regions.{Expression, Number, Maximum, Minimum, Ceiling, Floor, Remainder, Comparison, IsLess, IsLessOrEqual, IsGreater, IsGreaterOrEqual, IsEqual, IsUnequal, Condition, Compare, Both, Either, Opposite, Reference, Assignment, Node, For, If, Block, Assign, Nodes, NoNodes, Then, array_references, number_in, numbered, names_if_any}
 use Rattle.clan_extract.specs.Execution.{Setting}
 use Rattle.clan_extract.specs.Forms.{is_affine, form}
 use Rattle.clan_extract.specs.Placements.{Head, Placed, placed_all, loop_names, directions}
 use Rattle.clan_extract.specs.Constraints.{FormRow, Constraint, parts_of}
-use Rattle.clan_extract.specs.Translation.{RunsAs}
+use Rattle.clan_extract.specs.Translation.{RunsAs, HasNames}
 
 -- a list of coefficients cut or filled up with 0 to this length
 abbrev pub padded : ℕ → List ℤ → List ℤ
@@ -89,11 +89,6 @@ statement parameters arrays p = record {
   body = record { text = p.assignment.text; iterators = loop_names p.rounds };
   extensions = [];
 }
-
--- a list of names, None where there are none
-abbrev pub names_if_any : List (List ℕ) → Option (List (List ℕ))
-names_if_any [] = None
-names_if_any (x ∷ xs) = Some (x ∷ xs)
 
 -- the SCoP of a region with these parameters and arrays
 abbrev pub scop_of : List (List ℕ) → List (List ℕ) → Nodes → ScopData
@@ -179,3 +174,7 @@ abbrev mutual
 abbrev pub ScopMeansItsRegion : Type 0
 ScopMeansItsRegion = (setting : Setting) (region : Nodes) → are_affine_nodes region ≡ true → length setting.values ≡ length setting.parameters
     → RunsAs (scop_of setting.parameters setting.arrays region) setting region
+
+-- the SCoP of a region has the names that it was given
+abbrev pub ScopHasItsNames : Type 0
+ScopHasItsNames = (parameters arrays : List (List ℕ)) (region : Nodes) → HasNames (scop_of parameters arrays region) parameters arrays

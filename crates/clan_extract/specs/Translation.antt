@@ -10,7 +10,7 @@ use Rattle.scop_core.specs.declared.statements.Statement.{Statement}
 use Rattle.scop_core.specs.ScopData.{ScopData}
 use Rattle.scop_core.specs.Memory.{Agree, initial}
 use Rattle.scop_core.specs.Meaning.{Instance, Run, final}
-use Rattle.clan_extract.specs.Regions.{Number, Name, IsLess, For, Assign, Nodes, NoNodes, Then, parameters_of, arrays_of, numbered}
+use Rattle.clan_extract.specs.Regions.{Number, Name, IsLess, For, Assign, Nodes, NoNodes, Then, parameters_of, arrays_of, numbered, names_if_any}
 use Rattle.clan_extract.specs.Execution.{Setting, setting_of, run_nodes}
 
 -- S has a run at the values of the parameters, whose final memory is the memory after the region
@@ -89,10 +89,14 @@ one_loop_scop l = record {
 abbrev pub OneLoopMeansItsRegion : Type 0
 OneLoopMeansItsRegion = (l : OneLoop) → Means (one_loop_scop l) (one_loop_region l)
 
--- its parameter is the region's, and its list of arrays numbers the region's arrays by their first occurrence
-pub record HasNamesOf (S : ScopData) (region : Nodes) : Type 0 where
-  pub parameters : S.parameters ≡ Some (parameters_of region)
-  pub arrays : S.arrays ≡ Some (numbered (pos 1) (arrays_of region))
+-- S names these parameters, or has no list of names where there are none, and its list of arrays numbers these arrays in order
+pub record HasNames (S : ScopData) (parameters arrays : List (List ℕ)) : Type 0 where
+  pub parameters_are : S.parameters ≡ names_if_any parameters
+  pub arrays_are : S.arrays ≡ Some (numbered (pos 1) arrays)
+
+-- its parameters are the region's, and its list of arrays numbers the region's arrays by their first occurrence
+abbrev pub HasNamesOf : ScopData → Nodes → Type 0
+HasNamesOf S region = HasNames S (parameters_of region) (arrays_of region)
 
 -- the SCoP of one loop has the names of the loop
 abbrev pub OneLoopHasItsNames : Type 0

@@ -1,7 +1,7 @@
 //! The laws of the translation: functions that do nothing, and whose contracts are the laws.
 
 ghost use Rattle.clan_extract.specs.Execution.{LoopsRunAsLongAs};
-ghost use Rattle.clan_extract.specs.Scops.{ScopMeansItsRegion};
+ghost use Rattle.clan_extract.specs.Scops.{ScopMeansItsRegion, ScopHasItsNames};
 ghost use Rattle.clan_extract.specs.Translation.{OneLoopMeansItsRegion, OneLoopHasItsNames};
 
 /// The values of a loop are its start and each next one, as long as the comparison with its bound
@@ -25,4 +25,10 @@ pub fn one_loop_has_its_names()
 /// places of control can be translated has a run, whose final memory is the memory after the region.
 pub fn scop_means_its_region()
     ensures { ScopMeansItsRegion }
+{}
+
+/// The SCoP of a region names the parameters that it was given, where there are some, and numbers the
+/// arrays that it was given in their order.
+pub fn scop_has_its_names()
+    ensures { ScopHasItsNames }
 {}
