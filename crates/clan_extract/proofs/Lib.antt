@@ -12,6 +12,7 @@ pub mod Traces
 pub mod TurnOrders
 pub mod TurnSteps
 pub mod Meanings
+pub mod BetaClashes
 mod Checks
 mod ScopChecks
 mod RefusalChecks
