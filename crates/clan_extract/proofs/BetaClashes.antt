@@ -1,11 +1,11 @@
 -- The beta vectors of a region's assignments don't clash.
-use Rattle.std.proofs.Common.{◌≡◌, ◌⊎◌, inl, inr, ℕ, zero, suc, ◌+◌, ◌≤◌, ◌<◌, List, [], ◌∷◌, ◌++◌, length, map, Bool, true, false, ◌&&◌, refl, sym, ◌∙◌, ap, subst, arith, ℤ, pos, Option, None, Some}
+use Rattle.std.proofs.Common.{◌≡◌, ◌⊎◌, inl, inr, ℕ, ◌+◌, ◌≤◌, ◌<◌, List, [], ◌∷◌, ◌++◌, map, Bool, true, false, ◌&&◌, refl, ◌∙◌, ap, subst, arith, ℤ, pos, None}
 use Rattle.std.specs.Ordering.{int_eq}
 use Rattle.std.proofs.lemmas.Int.{ints}
 use Rattle.std.proofs.lemmas.Bool.Decides.{Decides-int_eq}
 use Rattle.suite_base.specs.declared.refusals.Refusal.TheVariants.{BetaClash}
 use Rattle.scop_core.specs.Sequences.{In}
-use Rattle.scop_core.specs.Assembly.{or_else, vectors_clash, clash_among, first_clash}
+use Rattle.scop_core.specs.Assembly.{vectors_clash, clash_among, first_clash}
 use Rattle.scop_core.specs.declared.statements.Statement.{Statement}
 use Rattle.scop_core.proofs.ReadBackPieces.{none_or, none_if}
 use Rattle.clan_extract.specs.Regions.{Node, For, If, Block, Assign, Nodes, NoNodes, Then}
@@ -103,11 +103,11 @@ mutual
       (pairwise_map Apart Apart (in_test true condition) ps (λ p q h. h) (apart_all then_nodes from))
       (pairwise_map Apart Apart (in_test false condition) qs (λ p q h. h) (apart_all else_nodes (from + children_of_all then_nodes)))
       (λ p q i j. (
-        let a = of_map (in_test true condition) p ps i in
-        let b = of_map (in_test false condition) q qs j in
-        subst (λ p. Apart p q) a.2 (subst (λ q. Apart (in_test true condition a.0) q) b.2
-        (apart_by_first from (from + children_of_all then_nodes) (from + children_of_all then_nodes + children_of_all else_nodes) a.0 b.0
-          (within_all then_nodes from a.0 a.1) (within_all else_nodes (from + children_of_all then_nodes) b.0 b.1)))))
+      let a = of_map (in_test true condition) p ps i in
+      let b = of_map (in_test false condition) q qs j in
+      subst (λ p. Apart p q) a.2 (subst (λ q. Apart (in_test true condition a.0) q) b.2
+      (apart_by_first from (from + children_of_all then_nodes) (from + children_of_all then_nodes + children_of_all else_nodes) a.0 b.0
+      (within_all then_nodes from a.0 a.1) (within_all else_nodes (from + children_of_all then_nodes) b.0 b.1)))))
   apart (Block nodes) from = apart_all nodes from
   apart (Assign a) from = (λ q i. absurd i, tt)
 

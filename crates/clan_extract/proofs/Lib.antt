@@ -13,6 +13,8 @@ pub mod TurnOrders
 pub mod TurnSteps
 pub mod Meanings
 pub mod BetaClashes
+pub mod StatementPieces
+pub mod ReadBacks
 mod Checks
 mod ScopChecks
 mod RefusalChecks

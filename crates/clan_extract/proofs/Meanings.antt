@@ -45,7 +45,7 @@ levels_have k (row ∷ rows) x n =
     ap (λ z. z ∷ map (λ level. affine_at level x [] n) (map (λ row. record { iterators = row; floors = []; parameters = zeros k; constant = pos 0 }) rows)) first
     ∙ ap (λ zs. dot row x ∷ zs) (levels_have k rows x n)
 
-length_directions : (rounds : List Round) → length (directions rounds) ≡ length (loop_names rounds)
+pub length_directions : (rounds : List Round) → length (directions rounds) ≡ length (loop_names rounds)
 length_directions [] = refl
 length_directions (Loop h ∷ rounds) = omega (arith, length_directions rounds)
 length_directions (Test truth c ∷ rounds) = length_directions rounds

@@ -1,13 +1,13 @@
 -- Refusals of regions, as they are worked out by hand. Most is the greatest coefficient.
-use Rattle.std.proofs.Common.{◌≡◌, refl, List, [], ◌∷◌, ℕ, zero, suc, ◌-◌, ◌^◌, ℤ, pos, Some, None}
+use Rattle.std.proofs.Common.{◌≡◌, refl, [], ◌∷◌, ℕ, zero, suc, ◌-◌, ◌^◌, pos, Some, None}
 use Rattle.std.specs.Prelude.{Option}
 use Rattle.suite_base.specs.declared.refusals.Refusal.{Refusal}
 use Rattle.suite_base.specs.declared.refusals.Refusal.TheVariants.{Limit, TooManyParts, Overflow}
-use Rattle.suite_base.specs.declared.refusals.Which.TheVariants.{Subscripts, Rows, Locals}
+use Rattle.suite_base.specs.declared.refusals.Which.TheVariants.{Rows, Locals}
 use Rattle.suite_base.specs.declared.refusals.Where.TheVariants.{Statement as OfStatement}
-use Rattle.clan_extract.specs.Regions.{Expression, Number, Name, Sum, Difference, Product, Negation, Ceiling, Remainder, IsLess, IsLessOrEqual, IsEqual, IsUnequal, Condition, Compare, Both, Reference, Node, Nodes, NoNodes, Then, For, If, Block, Assign}
+use Rattle.clan_extract.specs.Regions.{Expression, Number, Name, Sum, Difference, Product, Negation, Ceiling, Remainder, IsLess, IsEqual, Condition, Compare, Both, Nodes, NoNodes, Then, If, Block}
 use Rattle.clan_extract.specs.Refusals.{refusal_of}
-use Rattle.clan_extract.proofs.ScopChecks.{i, j, N, A, B, set, one, loop, many}
+use Rattle.clan_extract.proofs.ScopChecks.{i, N, A, B, set, one, loop, many}
 
 abbrev most : Expression
 most = Number (2 ^ 127 - 1)

@@ -6,3 +6,4 @@ pub mod Placements
 pub mod Constraints
 pub mod Scops
 pub mod Refusals
+pub mod ReadBack

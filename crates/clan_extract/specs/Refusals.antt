@@ -9,9 +9,8 @@ use Rattle.relation_core.specs.declared.part_rows.PartRow.{PartRow}
 use Rattle.scop_core.specs.declared.affines.Affine.{Affine}
 use Rattle.scop_core.specs.declared.accesses.Access.{Access}
 use Rattle.scop_core.specs.declared.limits.PartCount.TheVariants.{LocalCount, RowCount}
-use Rattle.scop_core.specs.declared.statements.Statement.{Statement}
 use Rattle.scop_core.specs.Assembly.{or_else, some_above}
-use Rattle.clan_extract.specs.Regions.{Expression, Number, Name, Sum, Difference, Product, Negation, Maximum, Minimum, Ceiling, Floor, Remainder, Condition, Compare, Both, Either, Opposite, Reference, Assignment, Nodes}
+use Rattle.clan_extract.specs.Regions.{Expression, Number, Name, Sum, Difference, Product, Negation, Maximum, Minimum, Ceiling, Floor, Remainder, Condition, Compare, Both, Either, Opposite, Reference, Nodes}
 use Rattle.clan_extract.specs.Forms.{form}
 use Rattle.clan_extract.specs.Placements.{Round, Loop, Test, Placed, placed_all, loop_names}
 use Rattle.clan_extract.specs.Scops.{statement}

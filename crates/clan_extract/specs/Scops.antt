@@ -1,5 +1,5 @@
 -- The SCoP of a region.
-use Rattle.std.specs.Prelude.{◌≡◌, ℕ, zero, suc, ◌+◌, List, [], ◌∷◌, ◌++◌, length, ℤ, pos, negsuc, Bool, true, false, cond, ◌&&◌, map, codes, Option, Some, None, unsigned_abs, nat_eq, nat_le, int_le}
+use Rattle.std.specs.Prelude.{◌≡◌, ℕ, zero, suc, ◌+◌, List, [], ◌∷◌, ◌++◌, length, ℤ, pos, negsuc, Bool, true, false, cond, ◌&&◌, map, codes, Some, unsigned_abs, nat_eq, nat_le, int_le}
 use Rattle.relation_core.specs.Systems.{System}
 use Rattle.relation_core.specs.declared.part_rows.PartRow.{PartRow}
 use Rattle.scop_core.specs.SolvedRows.{zeros, with_columns}

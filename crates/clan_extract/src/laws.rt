@@ -1,6 +1,7 @@
 //! The laws of the translation: functions that do nothing, and whose contracts are the laws.
 
 ghost use Rattle.clan_extract.specs.Execution.{LoopsRunAsLongAs};
+ghost use Rattle.clan_extract.specs.ReadBack.{ScopReadsBack};
 ghost use Rattle.clan_extract.specs.Scops.{ScopMeansItsRegion, ScopHasItsNames};
 ghost use Rattle.clan_extract.specs.Translation.{OneLoopMeansItsRegion, OneLoopHasItsNames};
 
@@ -31,4 +32,11 @@ pub fn scop_means_its_region()
 /// arrays that it was given in their order.
 pub fn scop_has_its_names()
     ensures { ScopHasItsNames }
+{}
+
+/// Where a region has no refusal and its names and texts can be printed, the pieces that its SCoP is
+/// printed as give that SCoP without a refusal: no limit is passed, all is in solved form, and no two
+/// beta vectors clash.
+pub fn scop_reads_back()
+    ensures { ScopReadsBack }
 {}
