@@ -1,7 +1,7 @@
 -- Rows and points in the columns of a system, cut into pieces of equal lengths.
 use Rattle.std.proofs.Common.{◌≡◌, ℕ, zero, suc, ◌+◌, ◌≤◌, List, [], ◌∷◌, ◌++◌, length, take, drop, ℤ, pos, ◌+ℤ◌, ◌*ℤ◌, refl, ap, sym, ◌∙◌, arith, append_assoc, length-take-le, length-drop}
 use Rattle.std.proofs.lemmas.Int.{ints}
-use Rattle.std.proofs.lemmas.List.{drop-drop, length-replicate}
+use Rattle.std.proofs.lemmas.List.{length-replicate}
 use Rattle.row_core.specs.Rows.{dot}
 use Rattle.relation_core.specs.Points.{coordinates}
 use Rattle.scop_core.specs.SolvedRows.{zeros}
@@ -19,6 +19,13 @@ pub record HasWidths (w : Widths) (s t p q f g : List ℤ) : Type 0 where
   pub source_floors_is : length f ≡ w.source_floors
   pub target_floors_is : length g ≡ w.target_floors
 
+-- pieces that are appended one by one, and from the last on
+pub columns_are : (s t p q f g r : List ℤ) → in_columns s t p q f g r ≡ s ++ (t ++ (p ++ (q ++ (f ++ (g ++ r)))))
+columns_are s t p q f g r =
+    append_assoc (s ++ t ++ p ++ q ++ f) g r
+    ∙ (append_assoc (s ++ t ++ p ++ q) f (g ++ r)
+    ∙ (append_assoc (s ++ t ++ p) q (f ++ (g ++ r)) ∙ (append_assoc (s ++ t) p (q ++ (f ++ (g ++ r))) ∙ append_assoc s t (p ++ (q ++ (f ++ (g ++ r)))))))
+
 -- the value of a row in pieces is the sum of the values of its pieces
 pub dot_columns : (w : Widths) (s t p q f g r x y l m u v z : List ℤ) → HasWidths w s t p q f g → HasWidths w x y l m u v
     → dot (in_columns s t p q f g r) (in_columns x y l m u v z) ≡ dot s x +ℤ (dot t y +ℤ (dot p l +ℤ (dot q m +ℤ (dot f u +ℤ (dot g v +ℤ dot r z)))))
@@ -34,13 +41,14 @@ dot_columns w s t p q f g r x y l m u v z a b =
     let e1 : dot (s ++ (t ++ (p ++ (q ++ (f ++ (g ++ r)))))) (x ++ (y ++ (l ++ (m ++ (u ++ (v ++ z))))))
     ≡ dot s x +ℤ dot (t ++ (p ++ (q ++ (f ++ (g ++ r))))) (y ++ (l ++ (m ++ (u ++ (v ++ z)))))
     = dot_append s (t ++ (p ++ (q ++ (f ++ (g ++ r))))) x (y ++ (l ++ (m ++ (u ++ (v ++ z))))) (a.source_is ∙ sym b.source_is) in
-    e1 ∙ ap (λ k. dot s x +ℤ k) (e2 ∙ ap (λ k. dot t y +ℤ k) (e3 ∙ ap (λ k. dot p l +ℤ k) (e4 ∙ ap (λ k. dot q m +ℤ k) (e5 ∙ ap (λ k. dot f u +ℤ k) e6))))
+    ap (λ c. dot c (in_columns x y l m u v z)) (columns_are s t p q f g r) ∙ (ap (λ c. dot (s ++ (t ++ (p ++ (q ++ (f ++ (g ++ r)))))) c) (columns_are x y l m u v z) ∙ (e1 ∙ ap (λ k. dot s x +ℤ k) (e2 ∙ ap (λ k. dot t y +ℤ k) (e3 ∙ ap (λ k. dot p l +ℤ k) (e4 ∙ ap (λ k. dot q m +ℤ k) (e5 ∙ ap (λ k. dot f u +ℤ k) e6))))))
 
 -- the coordinates of a system whose locals are four pieces
 pub coordinates_are : (x y l m u v n : List ℤ) → coordinates x y (l ++ (m ++ (u ++ v))) n ≡ in_columns x y l m u v (n ++ pos 1 ∷ [])
 coordinates_are x y l m u v n =
     ap (λ t. x ++ (y ++ t)) (append_assoc l (m ++ (u ++ v)) (n ++ pos 1 ∷ [])
     ∙ ap (λ t. l ++ t) (append_assoc m (u ++ v) (n ++ pos 1 ∷ []) ∙ ap (λ t. m ++ t) (append_assoc u v (n ++ pos 1 ∷ []))))
+    ∙ sym (columns_are x y l m u v (n ++ pos 1 ∷ []))
 
 pub dot_zeros : (k : ℕ) (v : List ℤ) → dot (zeros k) v ≡ pos 0
 dot_zeros zero v = refl
@@ -61,10 +69,10 @@ dot_cut (r ∷ row) (c ∷ x) v (suc k) e =
 
 -- a row cut into iterators, locals and the rest
 pub dot_cut_twice : (row x l z : List ℤ) (i k : ℕ) → length x ≡ i → length l ≡ k
-    → dot row (x ++ (l ++ z)) ≡ dot (take i row) x +ℤ (dot (take k (drop i row)) l +ℤ dot (drop (i + k) row) z)
+    → dot row (x ++ (l ++ z)) ≡ dot (take i row) x +ℤ (dot (take k (drop i row)) l +ℤ dot (drop k (drop i row)) z)
 dot_cut_twice row x l z i k e f =
     dot_cut row x (l ++ z) i e
-    ∙ ap (λ d. dot (take i row) x +ℤ d) (dot_cut (drop i row) l z k f ∙ ap (λ r. dot (take k (drop i row)) l +ℤ dot r z) (drop-drop k i row))
+    ∙ ap (λ d. dot (take i row) x +ℤ d) (dot_cut (drop i row) l z k f)
 
 -- lengths of a row's pieces
 pub front_length : (row : List ℤ) (i k : ℕ) → i + k ≤ length row → length (take i row) ≡ i
@@ -99,7 +107,7 @@ source_part_value w row x y l m u v z h at =
       source_floors_is = length_zeros w.source_floors;
       target_floors_is = length_zeros w.target_floors;
     } in
-    let sum = dot_columns w _ _ _ _ _ _ (drop (w.source + w.source_part) row) x y l m u v z sizes at in
+    let sum = dot_columns w _ _ _ _ _ _ (drop w.source_part (drop w.source row)) x y l m u v z sizes at in
     omega (arith, ints, dot_cut_twice row x l z w.source w.source_part at.source_is at.source_part_is, dot_zeros w.target y, dot_zeros w.target_part m, dot_zeros w.source_floors u, dot_zeros w.target_floors v)
 
 pub target_part_value : (w : Widths) (row x y l m u v z : List ℤ) → w.target + w.target_part ≤ length row → HasWidths w x y l m u v
@@ -113,7 +121,7 @@ target_part_value w row x y l m u v z h at =
       source_floors_is = length_zeros w.source_floors;
       target_floors_is = length_zeros w.target_floors;
     } in
-    let sum = dot_columns w _ _ _ _ _ _ (drop (w.target + w.target_part) row) x y l m u v z sizes at in
+    let sum = dot_columns w _ _ _ _ _ _ (drop w.target_part (drop w.target row)) x y l m u v z sizes at in
     omega (arith, ints, dot_cut_twice row y m z w.target w.target_part at.target_is at.target_part_is, dot_zeros w.source x, dot_zeros w.source_part l, dot_zeros w.source_floors u, dot_zeros w.target_floors v)
 
 pub source_floors_value : (w : Widths) (row x y l m u v z : List ℤ) → w.source + w.source_floors ≤ length row → HasWidths w x y l m u v
@@ -127,7 +135,7 @@ source_floors_value w row x y l m u v z h at =
       source_floors_is = middle_length row w.source w.source_floors h;
       target_floors_is = length_zeros w.target_floors;
     } in
-    let sum = dot_columns w _ _ _ _ _ _ (drop (w.source + w.source_floors) row) x y l m u v z sizes at in
+    let sum = dot_columns w _ _ _ _ _ _ (drop w.source_floors (drop w.source row)) x y l m u v z sizes at in
     omega (arith, ints, dot_cut_twice row x u z w.source w.source_floors at.source_is at.source_floors_is, dot_zeros w.target y, dot_zeros w.source_part l, dot_zeros w.target_part m, dot_zeros w.target_floors v)
 
 pub target_floors_value : (w : Widths) (row x y l m u v z : List ℤ) → w.target + w.target_floors ≤ length row → HasWidths w x y l m u v
@@ -141,5 +149,5 @@ target_floors_value w row x y l m u v z h at =
       source_floors_is = length_zeros w.source_floors;
       target_floors_is = middle_length row w.target w.target_floors h;
     } in
-    let sum = dot_columns w _ _ _ _ _ _ (drop (w.target + w.target_floors) row) x y l m u v z sizes at in
+    let sum = dot_columns w _ _ _ _ _ _ (drop w.target_floors (drop w.target row)) x y l m u v z sizes at in
     omega (arith, ints, dot_cut_twice row y v z w.target w.target_floors at.target_is at.target_floors_is, dot_zeros w.source x, dot_zeros w.source_part l, dot_zeros w.target_part m, dot_zeros w.source_floors u)

@@ -41,7 +41,7 @@ widths_of m = record {
 -- source iterators, target iterators, locals of the source part, of the target part, source floors,
 -- target floors, and then the parameters and the constant
 abbrev pub in_columns : List ℤ → List ℤ → List ℤ → List ℤ → List ℤ → List ℤ → List ℤ → List ℤ
-in_columns s t p q f g rest = s ++ (t ++ (p ++ (q ++ (f ++ (g ++ rest)))))
+in_columns s t p q f g rest = s ++ t ++ p ++ q ++ f ++ g ++ rest
 
 -- a row of iterators, locals and the rest in the columns of a system; a row of the context has the rest alone
 abbrev pub placed : Topic → Widths → List ℤ → List ℤ
@@ -49,16 +49,16 @@ placed Context w row =
     in_columns (zeros w.source) (zeros w.target) (zeros w.source_part) (zeros w.target_part) (zeros w.source_floors) (zeros w.target_floors) row
 placed SourcePart w row =
     in_columns (take w.source row) (zeros w.target) (take w.source_part (drop w.source row)) (zeros w.target_part)
-    (zeros w.source_floors) (zeros w.target_floors) (drop (w.source + w.source_part) row)
+    (zeros w.source_floors) (zeros w.target_floors) (drop w.source_part (drop w.source row))
 placed TargetPart w row =
     in_columns (zeros w.source) (take w.target row) (zeros w.source_part) (take w.target_part (drop w.target row))
-    (zeros w.source_floors) (zeros w.target_floors) (drop (w.target + w.target_part) row)
+    (zeros w.source_floors) (zeros w.target_floors) (drop w.target_part (drop w.target row))
 placed SourceFloors w row =
     in_columns (take w.source row) (zeros w.target) (zeros w.source_part) (zeros w.target_part)
-    (take w.source_floors (drop w.source row)) (zeros w.target_floors) (drop (w.source + w.source_floors) row)
+    (take w.source_floors (drop w.source row)) (zeros w.target_floors) (drop w.source_floors (drop w.source row))
 placed TargetFloors w row =
     in_columns (zeros w.source) (take w.target row) (zeros w.source_part) (zeros w.target_part) (zeros w.source_floors)
-    (take w.target_floors (drop w.target row)) (drop (w.target + w.target_floors) row)
+    (take w.target_floors (drop w.target row)) (drop w.target_floors (drop w.target row))
 
 -- rows in the columns of a system
 abbrev pub placed_rows : Topic → Widths → List PartRow → List PartRow
@@ -89,13 +89,16 @@ rows_between row (a ∷ xs) [] = []
 rows_between row (a ∷ xs) (b ∷ ys) = row a b ∷ rows_between row xs ys
 
 -- the columns of a system
-abbrev pub system_shape : Pairing → Shape
-system_shape m = record {
-  outputs = m.source_part.shape.outputs;
-  inputs = m.target_part.shape.outputs;
-  locals = m.source_part.shape.locals + m.target_part.shape.locals + length m.source_schedule.floors + length m.target_schedule.floors;
-  parameters = m.context.shape.parameters;
+abbrev pub shape_with : Widths → ℕ → Shape
+shape_with w parameters = record {
+  outputs = w.source;
+  inputs = w.target;
+  locals = w.source_part + w.target_part + w.source_floors + w.target_floors;
+  parameters = parameters;
 }
+
+abbrev pub system_shape : Pairing → Shape
+system_shape m = shape_with (widths_of m) m.context.shape.parameters
 
 -- the rows that the systems of all levels share: context, domain parts, floors, subscripts
 abbrev pub base_rows : Pairing → List PartRow
