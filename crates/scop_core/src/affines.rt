@@ -64,21 +64,21 @@ impl Affine {
     }
 
     /// The coefficients of the iterators.
-    pub(crate) fn iterators(&self) -> &[Coeff]
+    pub fn iterators(&self) -> &[Coeff]
         ensures { result.now ≡ self.now.iterators }
     {
         self.iterators.as_slice()
     }
 
     /// The coefficients of the floors.
-    pub(crate) fn floors(&self) -> &[Coeff]
+    pub fn floors(&self) -> &[Coeff]
         ensures { result.now ≡ self.now.floors }
     {
         self.floors.as_slice()
     }
 
     /// The coefficients of the parameters.
-    pub(crate) fn parameters(&self) -> &[Coeff]
+    pub fn parameters(&self) -> &[Coeff]
         ensures { result.now ≡ self.now.parameters }
     {
         self.parameters.as_slice()
