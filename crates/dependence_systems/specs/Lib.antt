@@ -1,3 +1,4 @@
+pub mod Comparisons
 pub mod Entries
 pub mod Fits
 pub mod Originals

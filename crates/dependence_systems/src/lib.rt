@@ -4,6 +4,7 @@
 
 mod deps;
 pub mod laws;
+mod pieces;
 mod widths;
 
 pub use deps::{Dep, DepKind};
