@@ -1,5 +1,17 @@
 -- Rows that compare a value of the source with one of the target, by what they compare.
-use Rattle.std.specs.Prelude.{ℤ, pos, negsuc, Bool, true, false, ℕ}
+use Rattle.std.specs.Prelude.{ℤ, pos, negsuc, ℕ, ◌+◌, Bool, true, false, not, List}
+use Rattle.row_core.specs.Rows.{scale}
+use Rattle.relation_core.specs.declared.part_rows.PartRow.{PartRow}
+use Rattle.relation_core.specs.declared.part_rows.RowKind.{RowKind}
+use Rattle.relation_core.specs.declared.part_rows.RowKind.TheVariants.{Equal, AtLeast}
+use Rattle.scop_core.specs.declared.affines.Affine.{Affine}
+use Rattle.scop_core.specs.SolvedRows.{zeros, HasSizes}
+use Rattle.dependence_systems.specs.declared.widths.Widths.{Widths}
+use Rattle.dependence_systems.specs.declared.widths.Topic.{Topic}
+use Rattle.dependence_systems.specs.declared.widths.Topic.TheVariants.{Context, SourcePart, TargetPart, SourceFloors, TargetFloors}
+use Rattle.dependence_systems.specs.declared.widths.Comparison.{Comparison}
+use Rattle.dependence_systems.specs.declared.widths.Comparison.TheVariants.{Subscripts, EqualLevels, LessLevels}
+use Rattle.dependence_systems.specs.Systems.{summed, summed_weight, weight_between}
 
 -- the factor of the source in a difference of source and target, or of target and source
 abbrev pub factor_of : Bool → ℤ
@@ -10,3 +22,57 @@ factor_of true = negsuc 0
 abbrev pub one_of : Bool → ℤ
 one_of false = pos 0
 one_of true = negsuc 0
+
+-- the source is to be less
+abbrev pub is_strict : Comparison → Bool
+is_strict Subscripts = false
+is_strict EqualLevels = false
+is_strict LessLevels = true
+
+abbrev pub kind_of : Comparison → RowKind
+kind_of Subscripts = Equal
+kind_of EqualLevels = Equal
+kind_of LessLevels = AtLeast
+
+-- how many coefficients of floors a value has, where there are so many floors
+abbrev pub floor_count : Comparison → ℕ → ℕ
+floor_count Subscripts floors = 0
+floor_count EqualLevels floors = floors
+floor_count LessLevels floors = floors
+
+-- the columns of floors, of which there are so many, for a value under a factor
+abbrev pub floor_columns : Comparison → ℕ → ℤ → Affine → List ℤ
+floor_columns Subscripts floors factor value = zeros floors
+floor_columns EqualLevels floors factor value = scale factor value.floors
+floor_columns LessLevels floors factor value = scale factor value.floors
+
+-- the entries of the row that compares two values
+abbrev pub entries_for : Comparison → Widths → Affine → Affine → List ℤ
+entries_for c w a b =
+    summed w (factor_of (is_strict c)) (factor_of (not (is_strict c))) (one_of (is_strict c))
+    (floor_columns c w.source_floors (factor_of (is_strict c)) a) (floor_columns c w.target_floors (factor_of (not (is_strict c))) b) a b
+
+-- the row that compares two values
+abbrev pub row_for : Comparison → Widths → Affine → Affine → PartRow
+row_for c w a b = record { kind = kind_of c; entries = entries_for c w a b }
+
+-- the greatest sum of the absolute values of an entry's summands in it
+abbrev pub weight_for : Comparison → Affine → Affine → ℕ
+weight_for c a b = summed_weight (factor_of (is_strict c)) (factor_of (not (is_strict c))) (one_of (is_strict c)) a b
+
+-- the greatest one over two lists of values
+abbrev pub weights_for : Comparison → List Affine → List Affine → ℕ
+weights_for c xs ys = weight_between (factor_of (is_strict c)) (factor_of (not (is_strict c))) (one_of (is_strict c)) xs ys
+
+-- a value of the source and one of the target have coefficients for the columns of a system with so many parameters
+pub record Compares (c : Comparison) (w : Widths) (parameters : ℕ) (a b : Affine) : Type 0 where
+  pub source : HasSizes w.source (floor_count c w.source_floors) parameters a
+  pub target : HasSizes w.target (floor_count c w.target_floors) parameters b
+
+-- how many entries of a row are of iterators and locals
+abbrev pub reach_of : Topic → Widths → ℕ
+reach_of Context w = 0
+reach_of SourcePart w = w.source + w.source_part
+reach_of TargetPart w = w.target + w.target_part
+reach_of SourceFloors w = w.source + w.source_floors
+reach_of TargetFloors w = w.target + w.target_floors

@@ -5,6 +5,7 @@
 mod deps;
 pub mod laws;
 mod pieces;
+mod placing;
 mod widths;
 
 pub use deps::{Dep, DepKind};

@@ -26,3 +26,14 @@ pub enum Topic {
     /// Of the target's iterators and floors.
     TargetFloors,
 }
+
+/// What two values are compared for.
+#[derive(Clone, Copy, Debug, PartialEq, Eq)]
+pub enum Comparison {
+    /// Two subscripts are equal.
+    Subscripts,
+    /// Two levels are equal.
+    EqualLevels,
+    /// The source's level is less than the target's.
+    LessLevels,
+}

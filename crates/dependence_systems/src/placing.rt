@@ -1,0 +1,119 @@
+//! Rows of the context, of a domain part or of floors in the columns of a system.
+
+ghost use Rattle.std.specs.Prelude.{◌≡◌, ◌≤◌, ◌<◌, ◌+◌, ◌++◌, ◌∷◌, [], length, IfOk, OnOk};
+ghost use Rattle.relation_core.specs.Systems.{width, row_at};
+ghost use Rattle.dependence_systems.specs.Comparisons.{reach_of};
+ghost use Rattle.dependence_systems.specs.Systems.{placed, placed_rows, shape_with};
+
+use crate::pieces::{push_all, push_zeros};
+use crate::widths::{Topic, Widths};
+use relation_core::{Part, PartRow};
+use row_core::{Coeff, DenseRow};
+use std::alloc::Global;
+use suite_base::NoMemory;
+
+/// A row of the context.
+fn context_row(alloc: Global, w: &Widths, entries: &[Coeff]) -> Result<DenseRow, NoMemory>
+    ensures { IfOk result (λ row. row ≡ placed Topic.Context w.now entries.now) }
+{
+    let mut row = DenseRow::new(alloc);
+    push_zeros(&mut row, w.source)?;
+    push_zeros(&mut row, w.target)?;
+    push_zeros(&mut row, w.source_part)?;
+    push_zeros(&mut row, w.target_part)?;
+    push_zeros(&mut row, w.source_floors)?;
+    push_zeros(&mut row, w.target_floors)?;
+    push_all(&mut row, entries)?;
+    Ok(row)
+}
+
+/// A row of the source's domain part.
+fn source_part_row(alloc: Global, w: &Widths, entries: &[Coeff]) -> Result<DenseRow, NoMemory>
+    requires { w.now.source + w.now.source_part ≤ length entries.now }
+    ensures { IfOk result (λ row. row ≡ placed Topic.SourcePart w.now entries.now) }
+{
+    let (iterators, rest) = entries.split_at(w.source);
+    let (locals, rest) = rest.split_at(w.source_part);
+    let mut row = DenseRow::new(alloc);
+    push_all(&mut row, iterators)?;
+    push_zeros(&mut row, w.target)?;
+    push_all(&mut row, locals)?;
+    push_zeros(&mut row, w.target_part)?;
+    push_zeros(&mut row, w.source_floors)?;
+    push_zeros(&mut row, w.target_floors)?;
+    push_all(&mut row, rest)?;
+    Ok(row)
+}
+
+/// A row of the target's domain part.
+fn target_part_row(alloc: Global, w: &Widths, entries: &[Coeff]) -> Result<DenseRow, NoMemory>
+    requires { w.now.target + w.now.target_part ≤ length entries.now }
+    ensures { IfOk result (λ row. row ≡ placed Topic.TargetPart w.now entries.now) }
+{
+    let (iterators, rest) = entries.split_at(w.target);
+    let (locals, rest) = rest.split_at(w.target_part);
+    let mut row = DenseRow::new(alloc);
+    push_zeros(&mut row, w.source)?;
+    push_all(&mut row, iterators)?;
+    push_zeros(&mut row, w.source_part)?;
+    push_all(&mut row, locals)?;
+    push_zeros(&mut row, w.source_floors)?;
+    push_zeros(&mut row, w.target_floors)?;
+    push_all(&mut row, rest)?;
+    Ok(row)
+}
+
+/// A row of the source's floors.
+fn source_floors_row(alloc: Global, w: &Widths, entries: &[Coeff]) -> Result<DenseRow, NoMemory>
+    requires { w.now.source + w.now.source_floors ≤ length entries.now }
+    ensures { IfOk result (λ row. row ≡ placed Topic.SourceFloors w.now entries.now) }
+{
+    let (iterators, rest) = entries.split_at(w.source);
+    let (floors, rest) = rest.split_at(w.source_floors);
+    let mut row = DenseRow::new(alloc);
+    push_all(&mut row, iterators)?;
+    push_zeros(&mut row, w.target)?;
+    push_zeros(&mut row, w.source_part)?;
+    push_zeros(&mut row, w.target_part)?;
+    push_all(&mut row, floors)?;
+    push_zeros(&mut row, w.target_floors)?;
+    push_all(&mut row, rest)?;
+    Ok(row)
+}
+
+/// A row of the target's floors.
+fn target_floors_row(alloc: Global, w: &Widths, entries: &[Coeff]) -> Result<DenseRow, NoMemory>
+    requires { w.now.target + w.now.target_floors ≤ length entries.now }
+    ensures { IfOk result (λ row. row ≡ placed Topic.TargetFloors w.now entries.now) }
+{
+    let (iterators, rest) = entries.split_at(w.target);
+    let (floors, rest) = rest.split_at(w.target_floors);
+    let mut row = DenseRow::new(alloc);
+    push_zeros(&mut row, w.source)?;
+    push_all(&mut row, iterators)?;
+    push_zeros(&mut row, w.source_part)?;
+    push_zeros(&mut row, w.target_part)?;
+    push_zeros(&mut row, w.source_floors)?;
+    push_all(&mut row, floors)?;
+    push_all(&mut row, rest)?;
+    Ok(row)
+}
+
+/// A row in the columns of a system; it has at least its iterators and locals.
+fn placed_row(
+    alloc: Global,
+    topic: Topic,
+    w: &Widths,
+    entries: &[Coeff],
+) -> Result<DenseRow, NoMemory>
+    requires { reach_of topic w.now ≤ length entries.now }
+    ensures { IfOk result (λ row. row ≡ placed topic w.now entries.now) }
+{
+    match topic {
+        Topic::Context => context_row(alloc, w, entries),
+        Topic::SourcePart => source_part_row(alloc, w, entries),
+        Topic::TargetPart => target_part_row(alloc, w, entries),
+        Topic::SourceFloors => source_floors_row(alloc, w, entries),
+        Topic::TargetFloors => target_floors_row(alloc, w, entries),
+    }
+}
