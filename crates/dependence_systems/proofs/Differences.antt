@@ -1,6 +1,7 @@
 -- The values of rows that compare an affine value of the source with one of the target.
 use Rattle.std.proofs.Common.{◌≡◌, ℕ, zero, suc, ◌+◌, List, [], ◌∷◌, ◌++◌, length, ℤ, pos, negsuc, ◌+ℤ◌, ◌*ℤ◌, ◌<ℤ◌, ◌≤ℤ◌, refl, ap, sym, ◌∙◌, arith}
-use Rattle.std.specs.Prelude.{◌↔◌}
+use Rattle.std.specs.Prelude.{◌↔◌, not}
+use Rattle.std.proofs.lemmas.List.{length-append}
 use Rattle.std.proofs.lemmas.Int.{ints}
 use Rattle.row_core.specs.Rows.{dot, scale, combined}
 use Rattle.row_core.specs.Linear.{mul_add_z, dot_scale, dot_combined}
@@ -12,8 +13,12 @@ use Rattle.scop_core.specs.SolvedRows.{zeros, HasSizes}
 use Rattle.scop_core.specs.Meaning.{affine_at}
 use Rattle.scop_core.proofs.SolvedDots.{dot_append}
 use Rattle.dependence_systems.specs.declared.widths.Widths.{Widths}
-use Rattle.dependence_systems.specs.Systems.{in_columns, summed, subscript_row, equal_row, less_row}
-use Rattle.dependence_systems.proofs.Segments.{HasWidths, dot_columns, dot_zeros, length_zeros}
+use Rattle.dependence_systems.specs.declared.widths.Comparison.{Comparison}
+use Rattle.dependence_systems.specs.declared.widths.Comparison.TheVariants.{Subscripts, EqualLevels, LessLevels}
+use Rattle.dependence_systems.specs.Comparisons.{factor_of, one_of, is_strict, floor_count, floor_columns, entries_for, Compares}
+use Rattle.relation_core.specs.Systems.{width}
+use Rattle.dependence_systems.specs.Systems.{shape_with, in_columns, summed, subscript_row, equal_row, less_row}
+use Rattle.dependence_systems.proofs.Segments.{HasWidths, columns_length, dot_columns, dot_zeros, length_zeros}
 
 mul_four : (i p q r c : ℤ) → i *ℤ (((p +ℤ q) +ℤ r) +ℤ c) ≡ (((i *ℤ p) +ℤ (i *ℤ q)) +ℤ (i *ℤ r)) +ℤ (i *ℤ c)
 mul_four i p q r c = omega (arith, ints, mul_add_z i ((p +ℤ q) +ℤ r) c, mul_add_z i (p +ℤ q) r, mul_add_z i p q)
@@ -109,3 +114,28 @@ less_meets w a b x y l m u v n at sa sb =
     let value = summed_value w (negsuc 0) (pos 1) (negsuc 0) _ _ a b x y l m u v n u v at sa.iterators_are sb.iterators_are sa.parameters_are sb.parameters_are
     (level_floors w (negsuc 0) (pos 1) a b u v sa.floors_are sb.floors_are) in
     (λ h. omega (arith, ints), λ h. omega (arith, ints))
+
+-- a row that compares two values is as wide as the system
+floor_columns_length : (c : Comparison) (floors : ℕ) (factor : ℤ) (value : Affine) → length value.floors ≡ floor_count c floors → length (floor_columns c floors factor value) ≡ floors
+floor_columns_length Subscripts floors factor value e = length_zeros floors
+floor_columns_length EqualLevels floors factor value e = length_scale factor value.floors ∙ e
+floor_columns_length LessLevels floors factor value e = length_scale factor value.floors ∙ e
+
+pub comparison_length : (c : Comparison) (w : Widths) (parameters : ℕ) (a b : Affine) → Compares c w parameters a b → length (entries_for c w a b) ≡ width (shape_with w parameters)
+comparison_length c w parameters a b h =
+    let i = factor_of (is_strict c) in
+    let j = factor_of (not (is_strict c)) in
+    let k = ((i *ℤ a.constant) +ℤ (j *ℤ b.constant)) +ℤ one_of (is_strict c) in
+    let f = floor_columns c w.source_floors i a in
+    let g = floor_columns c w.target_floors j b in
+    let sizes : HasWidths w (scale i a.iterators) (scale j b.iterators) (zeros w.source_part) (zeros w.target_part) f g = record {
+      source_is = length_scale i a.iterators ∙ h.source.iterators_are;
+      target_is = length_scale j b.iterators ∙ h.target.iterators_are;
+      source_part_is = length_zeros w.source_part;
+      target_part_is = length_zeros w.target_part;
+      source_floors_is = floor_columns_length c w.source_floors i a h.source.floors_are;
+      target_floors_is = floor_columns_length c w.target_floors j b h.target.floors_are;
+    } in
+    let rest : length (combined i a.parameters j b.parameters ++ k ∷ []) ≡ parameters + 1
+    = length-append (combined i a.parameters j b.parameters) (k ∷ []) ∙ ap (λ z. z + 1) (length_combined i a.parameters j b.parameters (h.source.parameters_are ∙ sym h.target.parameters_are) ∙ h.source.parameters_are) in
+    columns_length w _ _ _ _ f g (combined i a.parameters j b.parameters ++ k ∷ []) sizes ∙ omega (arith, rest)

@@ -1,14 +1,17 @@
 -- Rows and points in the columns of a system, cut into pieces of equal lengths.
 use Rattle.std.proofs.Common.{◌≡◌, ℕ, zero, suc, ◌+◌, ◌≤◌, List, [], ◌∷◌, ◌++◌, length, take, drop, ℤ, pos, ◌+ℤ◌, ◌*ℤ◌, refl, ap, sym, ◌∙◌, arith, append_assoc, length-take-le, length-drop}
 use Rattle.std.proofs.lemmas.Int.{ints}
-use Rattle.std.proofs.lemmas.List.{length-replicate}
+use Rattle.std.proofs.lemmas.List.{length-replicate, length-append}
 use Rattle.row_core.specs.Rows.{dot}
 use Rattle.relation_core.specs.Points.{coordinates}
 use Rattle.scop_core.specs.SolvedRows.{zeros}
 use Rattle.scop_core.proofs.SolvedDots.{dot_append}
 use Rattle.dependence_systems.specs.declared.widths.Widths.{Widths}
+use Rattle.dependence_systems.specs.declared.widths.Topic.{Topic}
 use Rattle.dependence_systems.specs.declared.widths.Topic.TheVariants.{Context, SourcePart, TargetPart, SourceFloors, TargetFloors}
-use Rattle.dependence_systems.specs.Systems.{in_columns, placed}
+use Rattle.dependence_systems.specs.Comparisons.{reach_of}
+use Rattle.dependence_systems.specs.Systems.{in_columns, placed, shape_with}
+use Rattle.relation_core.specs.Systems.{width}
 
 -- pieces as long as the columns of a system
 pub record HasWidths (w : Widths) (s t p q f g : List ℤ) : Type 0 where
@@ -81,73 +84,129 @@ front_length row i k h = length-take-le i row (omega arith)
 pub middle_length : (row : List ℤ) (i k : ℕ) → i + k ≤ length row → length (take k (drop i row)) ≡ k
 middle_length row i k h = length-take-le k (drop i row) (omega (arith, length-drop i row))
 
+-- the pieces of a placed row are as long as the columns
+pub context_sizes : (w : Widths) (row : List ℤ) → HasWidths w (zeros w.source) (zeros w.target) (zeros w.source_part) (zeros w.target_part) (zeros w.source_floors) (zeros w.target_floors)
+context_sizes w row = record {
+  source_is = length_zeros w.source;
+  target_is = length_zeros w.target;
+  source_part_is = length_zeros w.source_part;
+  target_part_is = length_zeros w.target_part;
+  source_floors_is = length_zeros w.source_floors;
+  target_floors_is = length_zeros w.target_floors;
+}
+
+pub source_part_sizes : (w : Widths) (row : List ℤ) → w.source + w.source_part ≤ length row
+    → HasWidths w (take w.source row) (zeros w.target) (take w.source_part (drop w.source row)) (zeros w.target_part) (zeros w.source_floors) (zeros w.target_floors)
+source_part_sizes w row h = record {
+  source_is = front_length row w.source w.source_part h;
+  target_is = length_zeros w.target;
+  source_part_is = middle_length row w.source w.source_part h;
+  target_part_is = length_zeros w.target_part;
+  source_floors_is = length_zeros w.source_floors;
+  target_floors_is = length_zeros w.target_floors;
+}
+
+pub target_part_sizes : (w : Widths) (row : List ℤ) → w.target + w.target_part ≤ length row
+    → HasWidths w (zeros w.source) (take w.target row) (zeros w.source_part) (take w.target_part (drop w.target row)) (zeros w.source_floors) (zeros w.target_floors)
+target_part_sizes w row h = record {
+  source_is = length_zeros w.source;
+  target_is = front_length row w.target w.target_part h;
+  source_part_is = length_zeros w.source_part;
+  target_part_is = middle_length row w.target w.target_part h;
+  source_floors_is = length_zeros w.source_floors;
+  target_floors_is = length_zeros w.target_floors;
+}
+
+pub source_floors_sizes : (w : Widths) (row : List ℤ) → w.source + w.source_floors ≤ length row
+    → HasWidths w (take w.source row) (zeros w.target) (zeros w.source_part) (zeros w.target_part) (take w.source_floors (drop w.source row)) (zeros w.target_floors)
+source_floors_sizes w row h = record {
+  source_is = front_length row w.source w.source_floors h;
+  target_is = length_zeros w.target;
+  source_part_is = length_zeros w.source_part;
+  target_part_is = length_zeros w.target_part;
+  source_floors_is = middle_length row w.source w.source_floors h;
+  target_floors_is = length_zeros w.target_floors;
+}
+
+pub target_floors_sizes : (w : Widths) (row : List ℤ) → w.target + w.target_floors ≤ length row
+    → HasWidths w (zeros w.source) (take w.target row) (zeros w.source_part) (zeros w.target_part) (zeros w.source_floors) (take w.target_floors (drop w.target row))
+target_floors_sizes w row h = record {
+  source_is = length_zeros w.source;
+  target_is = front_length row w.target w.target_floors h;
+  source_part_is = length_zeros w.source_part;
+  target_part_is = length_zeros w.target_part;
+  source_floors_is = length_zeros w.source_floors;
+  target_floors_is = middle_length row w.target w.target_floors h;
+}
+
 -- the value of a placed row is that of the row at the point's pieces of which it speaks
 pub context_value : (w : Widths) (row x y l m u v z : List ℤ) → HasWidths w x y l m u v
     → dot (placed Context w row) (in_columns x y l m u v z) ≡ dot row z
 context_value w row x y l m u v z at =
-    let sizes : HasWidths w (zeros w.source) (zeros w.target) (zeros w.source_part) (zeros w.target_part) (zeros w.source_floors) (zeros w.target_floors) = record {
-      source_is = length_zeros w.source;
-      target_is = length_zeros w.target;
-      source_part_is = length_zeros w.source_part;
-      target_part_is = length_zeros w.target_part;
-      source_floors_is = length_zeros w.source_floors;
-      target_floors_is = length_zeros w.target_floors;
-    } in
+    let sizes = context_sizes w row in
     let sum = dot_columns w _ _ _ _ _ _ row x y l m u v z sizes at in
     omega (arith, ints, dot_zeros w.source x, dot_zeros w.target y, dot_zeros w.source_part l, dot_zeros w.target_part m, dot_zeros w.source_floors u, dot_zeros w.target_floors v)
 
 pub source_part_value : (w : Widths) (row x y l m u v z : List ℤ) → w.source + w.source_part ≤ length row → HasWidths w x y l m u v
     → dot (placed SourcePart w row) (in_columns x y l m u v z) ≡ dot row (x ++ (l ++ z))
 source_part_value w row x y l m u v z h at =
-    let sizes : HasWidths w (take w.source row) (zeros w.target) (take w.source_part (drop w.source row)) (zeros w.target_part) (zeros w.source_floors) (zeros w.target_floors) = record {
-      source_is = front_length row w.source w.source_part h;
-      target_is = length_zeros w.target;
-      source_part_is = middle_length row w.source w.source_part h;
-      target_part_is = length_zeros w.target_part;
-      source_floors_is = length_zeros w.source_floors;
-      target_floors_is = length_zeros w.target_floors;
-    } in
+    let sizes = source_part_sizes w row h in
     let sum = dot_columns w _ _ _ _ _ _ (drop w.source_part (drop w.source row)) x y l m u v z sizes at in
     omega (arith, ints, dot_cut_twice row x l z w.source w.source_part at.source_is at.source_part_is, dot_zeros w.target y, dot_zeros w.target_part m, dot_zeros w.source_floors u, dot_zeros w.target_floors v)
 
 pub target_part_value : (w : Widths) (row x y l m u v z : List ℤ) → w.target + w.target_part ≤ length row → HasWidths w x y l m u v
     → dot (placed TargetPart w row) (in_columns x y l m u v z) ≡ dot row (y ++ (m ++ z))
 target_part_value w row x y l m u v z h at =
-    let sizes : HasWidths w (zeros w.source) (take w.target row) (zeros w.source_part) (take w.target_part (drop w.target row)) (zeros w.source_floors) (zeros w.target_floors) = record {
-      source_is = length_zeros w.source;
-      target_is = front_length row w.target w.target_part h;
-      source_part_is = length_zeros w.source_part;
-      target_part_is = middle_length row w.target w.target_part h;
-      source_floors_is = length_zeros w.source_floors;
-      target_floors_is = length_zeros w.target_floors;
-    } in
+    let sizes = target_part_sizes w row h in
     let sum = dot_columns w _ _ _ _ _ _ (drop w.target_part (drop w.target row)) x y l m u v z sizes at in
     omega (arith, ints, dot_cut_twice row y m z w.target w.target_part at.target_is at.target_part_is, dot_zeros w.source x, dot_zeros w.source_part l, dot_zeros w.source_floors u, dot_zeros w.target_floors v)
 
 pub source_floors_value : (w : Widths) (row x y l m u v z : List ℤ) → w.source + w.source_floors ≤ length row → HasWidths w x y l m u v
     → dot (placed SourceFloors w row) (in_columns x y l m u v z) ≡ dot row (x ++ (u ++ z))
 source_floors_value w row x y l m u v z h at =
-    let sizes : HasWidths w (take w.source row) (zeros w.target) (zeros w.source_part) (zeros w.target_part) (take w.source_floors (drop w.source row)) (zeros w.target_floors) = record {
-      source_is = front_length row w.source w.source_floors h;
-      target_is = length_zeros w.target;
-      source_part_is = length_zeros w.source_part;
-      target_part_is = length_zeros w.target_part;
-      source_floors_is = middle_length row w.source w.source_floors h;
-      target_floors_is = length_zeros w.target_floors;
-    } in
+    let sizes = source_floors_sizes w row h in
     let sum = dot_columns w _ _ _ _ _ _ (drop w.source_floors (drop w.source row)) x y l m u v z sizes at in
     omega (arith, ints, dot_cut_twice row x u z w.source w.source_floors at.source_is at.source_floors_is, dot_zeros w.target y, dot_zeros w.source_part l, dot_zeros w.target_part m, dot_zeros w.target_floors v)
 
 pub target_floors_value : (w : Widths) (row x y l m u v z : List ℤ) → w.target + w.target_floors ≤ length row → HasWidths w x y l m u v
     → dot (placed TargetFloors w row) (in_columns x y l m u v z) ≡ dot row (y ++ (v ++ z))
 target_floors_value w row x y l m u v z h at =
-    let sizes : HasWidths w (zeros w.source) (take w.target row) (zeros w.source_part) (zeros w.target_part) (zeros w.source_floors) (take w.target_floors (drop w.target row)) = record {
-      source_is = length_zeros w.source;
-      target_is = front_length row w.target w.target_floors h;
-      source_part_is = length_zeros w.source_part;
-      target_part_is = length_zeros w.target_part;
-      source_floors_is = length_zeros w.source_floors;
-      target_floors_is = middle_length row w.target w.target_floors h;
-    } in
+    let sizes = target_floors_sizes w row h in
     let sum = dot_columns w _ _ _ _ _ _ (drop w.target_floors (drop w.target row)) x y l m u v z sizes at in
     omega (arith, ints, dot_cut_twice row y v z w.target w.target_floors at.target_is at.target_floors_is, dot_zeros w.source x, dot_zeros w.source_part l, dot_zeros w.target_part m, dot_zeros w.source_floors u)
+
+-- how long a row in pieces is
+pub columns_length : (w : Widths) (s t p q f g r : List ℤ) → HasWidths w s t p q f g
+    → length (in_columns s t p q f g r) ≡ (w.source + w.target + (w.source_part + w.target_part + w.source_floors + w.target_floors)) + length r
+columns_length w s t p q f g r at =
+    omega (
+      arith,
+      length-append (s ++ t ++ p ++ q ++ f ++ g) r,
+      length-append (s ++ t ++ p ++ q ++ f) g,
+      length-append (s ++ t ++ p ++ q) f,
+      length-append (s ++ t ++ p) q,
+      length-append (s ++ t) p,
+      length-append s t,
+      at.source_is,
+      at.target_is,
+      at.source_part_is,
+      at.target_part_is,
+      at.source_floors_is,
+      at.target_floors_is,
+    )
+
+rest_length : (row : List ℤ) (i k n : ℕ) → length row ≡ i + k + n → length (drop k (drop i row)) ≡ n
+rest_length row i k n e = length-drop k (drop i row) ∙ omega (arith, length-drop i row)
+
+-- a placed row is as wide as the system
+pub placed_length : (topic : Topic) (w : Widths) (parameters : ℕ) (row : List ℤ) → length row ≡ reach_of topic w + (parameters + 1) → length (placed topic w row) ≡ width (shape_with w parameters)
+placed_length Context w parameters row e =
+    columns_length w _ _ _ _ _ _ row (context_sizes w row) ∙ omega (arith, e)
+placed_length SourcePart w parameters row e =
+    columns_length w _ _ _ _ _ _ _ (source_part_sizes w row (omega (arith, e))) ∙ omega (arith, rest_length row w.source w.source_part (parameters + 1) e)
+placed_length TargetPart w parameters row e =
+    columns_length w _ _ _ _ _ _ _ (target_part_sizes w row (omega (arith, e))) ∙ omega (arith, rest_length row w.target w.target_part (parameters + 1) e)
+placed_length SourceFloors w parameters row e =
+    columns_length w _ _ _ _ _ _ _ (source_floors_sizes w row (omega (arith, e))) ∙ omega (arith, rest_length row w.source w.source_floors (parameters + 1) e)
+placed_length TargetFloors w parameters row e =
+    columns_length w _ _ _ _ _ _ _ (target_floors_sizes w row (omega (arith, e))) ∙ omega (arith, rest_length row w.target w.target_floors (parameters + 1) e)

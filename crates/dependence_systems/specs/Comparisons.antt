@@ -1,9 +1,10 @@
 -- Rows that compare a value of the source with one of the target, by what they compare.
-use Rattle.std.specs.Prelude.{ℤ, pos, negsuc, ℕ, ◌+◌, Bool, true, false, not, List}
+use Rattle.std.specs.Prelude.{ℤ, pos, negsuc, ℕ, ◌+◌, ◌<◌, ◌≡◌, length, All, Bool, true, false, not, List}
 use Rattle.row_core.specs.Rows.{scale}
 use Rattle.relation_core.specs.declared.part_rows.PartRow.{PartRow}
 use Rattle.relation_core.specs.declared.part_rows.RowKind.{RowKind}
 use Rattle.relation_core.specs.declared.part_rows.RowKind.TheVariants.{Equal, AtLeast}
+use Rattle.relation_core.specs.Systems.{row_at}
 use Rattle.scop_core.specs.declared.affines.Affine.{Affine}
 use Rattle.scop_core.specs.SolvedRows.{zeros, HasSizes}
 use Rattle.dependence_systems.specs.declared.widths.Widths.{Widths}
@@ -69,6 +70,11 @@ pub record Compares (c : Comparison) (w : Widths) (parameters : ℕ) (a b : Affi
   pub source : HasSizes w.source (floor_count c w.source_floors) parameters a
   pub target : HasSizes w.target (floor_count c w.target_floors) parameters b
 
+-- so have all values of two lists
+pub record AllCompare (c : Comparison) (w : Widths) (parameters : ℕ) (xs ys : List Affine) : Type 0 where
+  pub source : All (HasSizes w.source (floor_count c w.source_floors) parameters) xs
+  pub target : All (HasSizes w.target (floor_count c w.target_floors) parameters) ys
+
 -- how many entries of a row are of iterators and locals
 abbrev pub reach_of : Topic → Widths → ℕ
 reach_of Context w = 0
@@ -76,3 +82,7 @@ reach_of SourcePart w = w.source + w.source_part
 reach_of TargetPart w = w.target + w.target_part
 reach_of SourceFloors w = w.source + w.source_floors
 reach_of TargetFloors w = w.target + w.target_floors
+
+-- each row has so many entries
+abbrev pub AreLong : ℕ → List PartRow → Type 0
+AreLong n rows = (k : ℕ) → k < length rows → length (row_at rows k).entries ≡ n

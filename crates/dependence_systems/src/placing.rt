@@ -1,8 +1,7 @@
 //! Rows of the context, of a domain part or of floors in the columns of a system.
 
 ghost use Rattle.std.specs.Prelude.{◌≡◌, ◌≤◌, ◌<◌, ◌+◌, ◌++◌, ◌∷◌, [], length, IfOk, OnOk};
-ghost use Rattle.relation_core.specs.Systems.{width, row_at};
-ghost use Rattle.dependence_systems.specs.Comparisons.{reach_of};
+ghost use Rattle.dependence_systems.specs.Comparisons.{reach_of, AreLong};
 ghost use Rattle.dependence_systems.specs.Systems.{placed, placed_rows, shape_with};
 
 use crate::pieces::{push_all, push_zeros};
@@ -116,4 +115,34 @@ fn placed_row(
         Topic::SourceFloors => source_floors_row(alloc, w, entries),
         Topic::TargetFloors => target_floors_row(alloc, w, entries),
     }
+}
+
+/// Appends a row of one side, which has an entry for each iterator and local of which it speaks, for
+/// each parameter and for the constant.
+fn push_placed(part: &mut Part, topic: Topic, w: &Widths, row: &PartRow) -> Result<(), NoMemory>
+    requires columns { part.old.shape ≡ shape_with w.now part.old.shape.parameters }
+    requires long { length row.now.entries ≡ reach_of topic w.now + (part.old.shape.parameters + 1) }
+    ensures shape { part.new.shape ≡ part.old.shape }
+    ensures rows { OnOk result (part.new.rows ≡ part.old.rows ++ placed_rows topic w.now (row.now ∷ [])) }
+{
+    let entries = placed_row(part.allocator(), topic, w, row.entries.as_slice())?;
+    part.push_row(row.kind, entries.as_slice())
+}
+
+/// Appends rows of one side.
+pub fn push_placed_rows(
+    part: &mut Part,
+    topic: Topic,
+    w: &Widths,
+    rows: &[PartRow],
+) -> Result<(), NoMemory>
+    requires columns { part.old.shape ≡ shape_with w.now part.old.shape.parameters }
+    requires long { AreLong (reach_of topic w.now + (part.old.shape.parameters + 1)) rows.now }
+    ensures shape { part.new.shape ≡ part.old.shape }
+    ensures rows { OnOk result (part.new.rows ≡ part.old.rows ++ placed_rows topic w.now rows.now) }
+{
+    for k in 0..rows.len() {
+        push_placed(part, topic, w, &rows[k])?;
+    }
+    Ok(())
 }

@@ -1,0 +1,151 @@
+//! Rows that compare values of the source with values of the target.
+
+ghost use Rattle.std.specs.Prelude.{◌≡◌, ◌≤◌, ◌<◌, ◌^◌, ◌++◌, ◌∷◌, [], length, not, IfOk, OnOk, IfErr};
+ghost use Rattle.row_core.specs.Rows.{scale};
+ghost use Rattle.scop_core.specs.SolvedRows.{zeros};
+ghost use Rattle.dependence_systems.specs.Comparisons.{factor_of, is_strict, kind_of, floor_columns, entries_for, row_for, weight_for, weights_for, Compares, AllCompare};
+ghost use Rattle.dependence_systems.specs.Systems.{rows_between, shape_with};
+
+use crate::pieces::{push_constant_difference, push_differences, push_signed, push_zeros};
+use crate::widths::{Comparison, Widths};
+use relation_core::{Part, RowKind};
+use row_core::{Coeff, DenseRow, RowFail};
+use scop_core::Affine;
+use std::alloc::Global;
+use suite_base::NoMemory;
+
+impl Comparison {
+    /// Whether the source is to be less.
+    fn strict(self) -> bool
+        ensures { result ≡ is_strict self }
+    {
+        match self {
+            Comparison::Subscripts => false,
+            Comparison::EqualLevels => false,
+            Comparison::LessLevels => true,
+        }
+    }
+
+    /// The kind of the row.
+    fn kind(self) -> RowKind
+        ensures { result ≡ kind_of self }
+    {
+        match self {
+            Comparison::Subscripts => RowKind::Equal,
+            Comparison::EqualLevels => RowKind::Equal,
+            Comparison::LessLevels => RowKind::AtLeast,
+        }
+    }
+}
+
+/// Appends the columns of floors, of which there are so many.
+fn push_floors(
+    row: &mut DenseRow,
+    comparison: Comparison,
+    floors: usize,
+    negative: bool,
+    value: &Affine,
+) -> Result<(), NoMemory>
+    ensures { OnOk result (row.new ≡ row.old ++ floor_columns comparison floors (factor_of negative) value.now) }
+{
+    match comparison {
+        Comparison::Subscripts => push_zeros(row, floors),
+        Comparison::EqualLevels => push_signed(row, negative, value.floors()),
+        Comparison::LessLevels => push_signed(row, negative, value.floors()),
+    }
+}
+
+/// The columns of iterators and locals of the row that compares two values.
+fn front_columns(
+    alloc: Global,
+    comparison: Comparison,
+    w: &Widths,
+    a: &Affine,
+    b: &Affine,
+) -> Result<DenseRow, NoMemory>
+    ensures { IfOk result (λ row. row ≡ scale (factor_of (is_strict comparison)) a.now.iterators ++ scale (factor_of (not (is_strict comparison))) b.now.iterators
+        ++ zeros w.now.source_part ++ zeros w.now.target_part ++ floor_columns comparison w.now.source_floors (factor_of (is_strict comparison)) a.now
+        ++ floor_columns comparison w.now.target_floors (factor_of (not (is_strict comparison))) b.now) }
+{
+    let strict = comparison.strict();
+    let mut row = DenseRow::new(alloc);
+    push_signed(&mut row, strict, a.iterators())?;
+    push_signed(&mut row, !strict, b.iterators())?;
+    push_zeros(&mut row, w.source_part)?;
+    push_zeros(&mut row, w.target_part)?;
+    push_floors(&mut row, comparison, w.source_floors, strict, a)?;
+    push_floors(&mut row, comparison, w.target_floors, !strict, b)?;
+    Ok(row)
+}
+
+/// The row that compares two values. Overflow comes exactly where some entry has summands whose
+/// absolute values sum above 2^127 - 1.
+fn comparing_row(
+    alloc: Global,
+    comparison: Comparison,
+    w: &Widths,
+    a: &Affine,
+    b: &Affine,
+) -> Result<DenseRow, RowFail>
+    requires { length a.now.parameters ≡ length b.now.parameters }
+    ensures row { IfOk result (λ row. row ≡ entries_for comparison w.now a.now b.now) }
+    ensures light { OnOk result (weight_for comparison a.now b.now < 2 ^ 127) }
+    ensures heavy { IfErr result (λ fail. fail ≡ RowFail.Overflow → 2 ^ 127 ≤ weight_for comparison a.now b.now) }
+{
+    let strict = comparison.strict();
+    match front_columns(alloc, comparison, w, a, b) {
+        Err(NoMemory) => Err(RowFail::Memory),
+        Ok(row) => {
+            let mut row = row;
+            push_differences(&mut row, strict, a.parameters(), b.parameters())?;
+            push_constant_difference(&mut row, strict, a.constant(), b.constant())?;
+            Ok(row)
+        }
+    }
+}
+
+/// Appends the row that compares two values. Overflow comes exactly where some entry of it has
+/// summands whose absolute values sum above 2^127 - 1.
+fn push_comparison(
+    part: &mut Part,
+    comparison: Comparison,
+    w: &Widths,
+    a: &Affine,
+    b: &Affine,
+) -> Result<(), RowFail>
+    requires columns { part.old.shape ≡ shape_with w.now part.old.shape.parameters }
+    requires sizes { Compares comparison w.now part.old.shape.parameters a.now b.now }
+    ensures shape { part.new.shape ≡ part.old.shape }
+    ensures rows { OnOk result (part.new.rows ≡ part.old.rows ++ row_for comparison w.now a.now b.now ∷ []) }
+    ensures light { OnOk result (weight_for comparison a.now b.now < 2 ^ 127) }
+    ensures heavy { IfErr result (λ fail. fail ≡ RowFail.Overflow → 2 ^ 127 ≤ weight_for comparison a.now b.now) }
+{
+    let row = comparing_row(part.allocator(), comparison, w, a, b)?;
+    match part.push_row(comparison.kind(), row.as_slice()) {
+        Ok(()) => Ok(()),
+        Err(NoMemory) => Err(RowFail::Memory),
+    }
+}
+
+/// Appends one row for each two values at one place of two lists of one length. Overflow comes exactly
+/// where an entry of one of them has summands whose absolute values sum above 2^127 - 1.
+pub fn push_comparisons(
+    part: &mut Part,
+    comparison: Comparison,
+    w: &Widths,
+    a: &[Affine],
+    b: &[Affine],
+) -> Result<(), RowFail>
+    requires columns { part.old.shape ≡ shape_with w.now part.old.shape.parameters }
+    requires lengths { length a.now ≡ length b.now }
+    requires sizes { AllCompare comparison w.now part.old.shape.parameters a.now b.now }
+    ensures shape { part.new.shape ≡ part.old.shape }
+    ensures rows { OnOk result (part.new.rows ≡ part.old.rows ++ rows_between (row_for comparison w.now) a.now b.now) }
+    ensures light { OnOk result (weights_for comparison a.now b.now < 2 ^ 127) }
+    ensures heavy { IfErr result (λ fail. fail ≡ RowFail.Overflow → 2 ^ 127 ≤ weights_for comparison a.now b.now) }
+{
+    for k in 0..a.len() {
+        push_comparison(part, comparison, w, &a[k], &b[k])?;
+    }
+    Ok(())
+}
