@@ -102,27 +102,27 @@ base_meets m x y l k u v n fits at en = (forwards, backwards)
     six : List PartRow
     six = rows_between (subscript_row w) m.source_access.subscripts m.target_access.subscripts
 
-    forwards : MeetsAll (one ++ (two ++ (three ++ (four ++ (five ++ six))))) whole → BaseHolds m x y l k u v n
+    forwards : MeetsAll (one ++ two ++ three ++ four ++ five ++ six) whole → BaseHolds m x y l k u v n
     forwards h =
-        let h2 = meets_back one (two ++ (three ++ (four ++ (five ++ six)))) whole h in
-        let h3 = meets_back two (three ++ (four ++ (five ++ six))) whole h2 in
-        let h4 = meets_back three (four ++ (five ++ six)) whole h3 in
-        let h5 = meets_back four (five ++ six) whole h4 in record {
-          context = said.context.0 (meets_front one (two ++ (three ++ (four ++ (five ++ six)))) whole h);
-          source_part = said.source_part.0 (meets_front two (three ++ (four ++ (five ++ six))) whole h2);
-          target_part = said.target_part.0 (meets_front three (four ++ (five ++ six)) whole h3);
-          source_floors = said.source_floors.0 (meets_front four (five ++ six) whole h4);
-          target_floors = said.target_floors.0 (meets_front five six whole h5);
-          subscripts = said.subscripts.0 (meets_back five six whole h5);
+        let h5 = meets_front (one ++ two ++ three ++ four ++ five) six whole h in
+        let h4 = meets_front (one ++ two ++ three ++ four) five whole h5 in
+        let h3 = meets_front (one ++ two ++ three) four whole h4 in
+        let h2 = meets_front (one ++ two) three whole h3 in record {
+          context = said.context.0 (meets_front one two whole h2);
+          source_part = said.source_part.0 (meets_back one two whole h2);
+          target_part = said.target_part.0 (meets_back (one ++ two) three whole h3);
+          source_floors = said.source_floors.0 (meets_back (one ++ two ++ three) four whole h4);
+          target_floors = said.target_floors.0 (meets_back (one ++ two ++ three ++ four) five whole h5);
+          subscripts = said.subscripts.0 (meets_back (one ++ two ++ three ++ four ++ five) six whole h);
         }
 
-    backwards : BaseHolds m x y l k u v n → MeetsAll (one ++ (two ++ (three ++ (four ++ (five ++ six))))) whole
+    backwards : BaseHolds m x y l k u v n → MeetsAll (one ++ two ++ three ++ four ++ five ++ six) whole
     backwards h =
-        meets_append one (two ++ (three ++ (four ++ (five ++ six)))) whole (said.context.1 h.context)
-        (meets_append two (three ++ (four ++ (five ++ six))) whole (said.source_part.1 h.source_part)
-        (meets_append three (four ++ (five ++ six)) whole (said.target_part.1 h.target_part)
-        (meets_append four (five ++ six) whole (said.source_floors.1 h.source_floors)
-        (meets_append five six whole (said.target_floors.1 h.target_floors) (said.subscripts.1 h.subscripts)))))
+        let h2 = meets_append one two whole (said.context.1 h.context) (said.source_part.1 h.source_part) in
+        let h3 = meets_append (one ++ two) three whole h2 (said.target_part.1 h.target_part) in
+        let h4 = meets_append (one ++ two ++ three) four whole h3 (said.source_floors.1 h.source_floors) in
+        let h5 = meets_append (one ++ two ++ three ++ four) five whole h4 (said.target_floors.1 h.target_floors) in
+        meets_append (one ++ two ++ three ++ four ++ five) six whole h5 (said.subscripts.1 h.subscripts)
 
 -- loops in common are levels of both
 pub common_levels : (m : Pairing) → PairingFits m → (common_loops m.source_schedule.betas m.target_schedule.betas ≤ length m.source_schedule.levels)

@@ -1,5 +1,6 @@
 -- Rows that compare a value of the source with one of the target, by what they compare.
-use Rattle.std.specs.Prelude.{ℤ, pos, negsuc, ℕ, ◌+◌, ◌<◌, ◌≡◌, length, All, Bool, true, false, not, List}
+use Rattle.std.specs.Prelude.{ℤ, pos, negsuc, ℕ, ◌+◌, ◌<◌, ◌≡◌, length, All, Bool, true, false, not, List, [], ◌∷◌}
+use Rattle.std.specs.Ordering.{int_eq}
 use Rattle.row_core.specs.Rows.{scale}
 use Rattle.relation_core.specs.declared.part_rows.PartRow.{PartRow}
 use Rattle.relation_core.specs.declared.part_rows.RowKind.{RowKind}
@@ -86,3 +87,11 @@ reach_of TargetFloors w = w.target + w.target_floors
 -- each row has so many entries
 abbrev pub AreLong : ℕ → List PartRow → Type 0
 AreLong n rows = (k : ℕ) → k < length rows → length (row_at rows k).entries ≡ n
+
+-- two beta vectors begin with one beta, and both go on behind it
+abbrev pub starts_common : List ℤ → List ℤ → Bool
+starts_common [] q = false
+starts_common (b ∷ []) q = false
+starts_common (b ∷ (b' ∷ p)) [] = false
+starts_common (b ∷ (b' ∷ p)) (c ∷ []) = false
+starts_common (b ∷ (b' ∷ p)) (c ∷ (c' ∷ q)) = int_eq b c

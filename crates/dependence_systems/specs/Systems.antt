@@ -100,17 +100,22 @@ shape_with w parameters = record {
 abbrev pub system_shape : Pairing → Shape
 system_shape m = shape_with (widths_of m) m.context.shape.parameters
 
--- the rows that the systems of all levels share: context, domain parts, floors, subscripts
+-- the rows that do not speak of accesses: the context, both domain parts, the floors of both
+abbrev pub shared_rows : Widths → List PartRow → List PartRow → List PartRow → List PartRow → List PartRow → List PartRow
+shared_rows w context source_part target_part source_floors target_floors =
+    placed_rows Context w context ++ placed_rows SourcePart w source_part ++ placed_rows TargetPart w target_part
+    ++ placed_rows SourceFloors w source_floors ++ placed_rows TargetFloors w target_floors
+
+-- the rows of a schedule's floors over so many iterators
+abbrev pub rows_of_floors : System → ℕ → Schedule → List PartRow
+rows_of_floors context iterators schedule = (floor_part iterators context.shape.parameters schedule.floors).rows
+
+-- the rows that the systems of all levels share: those, and source minus target = 0 for each subscript
 abbrev pub base_rows : Pairing → List PartRow
 base_rows m =
     let w = widths_of m in
-    let parameters = m.context.shape.parameters in
-    placed_rows Context w m.context.rows
-    ++ (placed_rows SourcePart w m.source_part.rows
-    ++ (placed_rows TargetPart w m.target_part.rows
-    ++ (placed_rows SourceFloors w (floor_part w.source parameters m.source_schedule.floors).rows
-    ++ (placed_rows TargetFloors w (floor_part w.target parameters m.target_schedule.floors).rows
-    ++ rows_between (subscript_row w) m.source_access.subscripts m.target_access.subscripts))))
+    shared_rows w m.context.rows m.source_part.rows m.target_part.rows (rows_of_floors m.context w.source m.source_schedule) (rows_of_floors m.context w.target m.target_schedule)
+    ++ rows_between (subscript_row w) m.source_access.subscripts m.target_access.subscripts
 
 -- the rows that say that the first k levels are equal
 abbrev pub equal_rows : Pairing → ℕ → List PartRow
