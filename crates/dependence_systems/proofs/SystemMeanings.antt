@@ -107,9 +107,9 @@ forwards m level x y n fits is_level h =
     } in
     let point : coordinates x y h.locals n ≡ in_columns x y cut.l cut.k cut.u cut.v (n ++ pos 1 ∷ [])
     = ap (λ s. coordinates x y s n) cut.whole ∙ coordinates_are x y cut.l cut.k cut.u cut.v n in
-    let meets : MeetsAll (base_rows m ++ level_rows m level) (in_columns x y cut.l cut.k cut.u cut.v (n ++ pos 1 ∷ [])) = subst (λ v. MeetsAll (base_rows m ++ level_rows m level) v) point h.meets in
-    let base : BaseHolds m x y cut.l cut.k cut.u cut.v n = (base_meets m x y cut.l cut.k cut.u cut.v n fits widths h.parameters_are).0 (meets_front (base_rows m) (level_rows m level) _ meets) in
-    let ordered = (level_meets m level x y cut.l cut.k cut.u cut.v n fits widths h.parameters_are is_level).0 (meets_back (base_rows m) (level_rows m level) _ meets) in
+    let meets : MeetsAll (base_rows m ++ level_rows (widths_of m) m.source_schedule m.target_schedule level) (in_columns x y cut.l cut.k cut.u cut.v (n ++ pos 1 ∷ [])) = subst (λ v. MeetsAll (base_rows m ++ level_rows (widths_of m) m.source_schedule m.target_schedule level) v) point h.meets in
+    let base : BaseHolds m x y cut.l cut.k cut.u cut.v n = (base_meets m x y cut.l cut.k cut.u cut.v n fits widths h.parameters_are).0 (meets_front (base_rows m) (level_rows (widths_of m) m.source_schedule m.target_schedule level) _ meets) in
+    let ordered = (level_meets m level x y cut.l cut.k cut.u cut.v n fits widths h.parameters_are is_level).0 (meets_back (base_rows m) (level_rows (widths_of m) m.source_schedule m.target_schedule level) _ meets) in
     let us = (floors_mean m.source_part.shape.outputs m.context.shape.parameters m.source_schedule fits.source_schedule x cut.u n h.outputs_are cut.u_is h.parameters_are).0 base.source_floors in
     let vs = (floors_mean m.target_part.shape.outputs m.context.shape.parameters m.target_schedule fits.target_schedule y cut.v n h.inputs_are cut.v_is h.parameters_are).0 base.target_floors in record {
       context = context_lies m.context n fits.context h.parameters_are base.context;
@@ -162,11 +162,11 @@ backwards m level x y n fits is_level h =
     } in
     let point : in_columns x y l k u v (n ++ pos 1 ∷ []) ≡ coordinates x y (l ++ (k ++ (u ++ v))) n = sym (coordinates_are x y l k u v n) in
     let first : MeetsAll (base_rows m) (in_columns x y l k u v (n ++ pos 1 ∷ [])) = (base_meets m x y l k u v n fits widths en).1 base in
-    let second : MeetsAll (level_rows m level) (in_columns x y l k u v (n ++ pos 1 ∷ [])) = (level_meets m level x y l k u v n fits widths en is_level).1 h.order in record {
+    let second : MeetsAll (level_rows (widths_of m) m.source_schedule m.target_schedule level) (in_columns x y l k u v (n ++ pos 1 ∷ [])) = (level_meets m level x y l k u v n fits widths en is_level).1 h.order in record {
       outputs_are = h.source.outputs_are;
       inputs_are = h.target.outputs_are;
       parameters_are = en;
       locals = l ++ (k ++ (u ++ v));
       locals_are = omega (arith, length-append l (k ++ (u ++ v)), length-append k (u ++ v), length-append u v, h.source.locals_are, h.target.locals_are, eu, ev);
-      meets = subst (λ p. MeetsAll (base_rows m ++ level_rows m level) p) point (meets_append (base_rows m) (level_rows m level) _ first second);
+      meets = subst (λ p. MeetsAll (base_rows m ++ level_rows (widths_of m) m.source_schedule m.target_schedule level) p) point (meets_append (base_rows m) (level_rows (widths_of m) m.source_schedule m.target_schedule level) _ first second);
     }

@@ -15,7 +15,7 @@ use Rattle.scop_core.proofs.LevelOrder.{loops_are_common}
 use Rattle.dependence_systems.specs.declared.widths.Widths.{Widths}
 use Rattle.dependence_systems.specs.declared.widths.Topic.TheVariants.{Context, SourcePart, TargetPart, SourceFloors, TargetFloors}
 use Rattle.scop_core.specs.LevelOrder.{common_loops, OrdersAt, IsLevel}
-use Rattle.dependence_systems.specs.Fits.{PairingFits}
+use Rattle.dependence_systems.specs.Fits.{PairingFits, SchedulesFit}
 use Rattle.dependence_systems.specs.Systems.{Pairing, widths_of, in_columns, placed_rows, rows_between, subscript_row, base_rows, equal_rows, less_rows, level_rows}
 use Rattle.dependence_systems.proofs.Segments.{HasWidths, context_value, source_part_value, target_part_value, source_floors_value, target_floors_value}
 use Rattle.dependence_systems.proofs.RowMeanings.{placed_meet, subscript_rows_meet, equal_rows_meet, less_rows_meet, floors_reach}
@@ -125,34 +125,40 @@ base_meets m x y l k u v n fits at en = (forwards, backwards)
         meets_append (one ++ two ++ three ++ four ++ five) six whole h5 (said.subscripts.1 h.subscripts)
 
 -- loops in common are levels of both
-pub common_levels : (m : Pairing) → PairingFits m → (common_loops m.source_schedule.betas m.target_schedule.betas ≤ length m.source_schedule.levels)
-    × (common_loops m.source_schedule.betas m.target_schedule.betas ≤ length m.target_schedule.levels)
-common_levels m fits =
-    let s = m.source_schedule in
-    let t = m.target_schedule in
-    let source : length s.betas ≡ length (levels_at s.levels [] [] []) + 1 = fits.source_schedule.relation.betas ∙ ap (λ k. k + 1) (sym (length-map s.levels (λ level. affine_at level [] [] []))) in
-    let target : length t.betas ≡ length (levels_at t.levels [] [] []) + 1 = fits.target_schedule.relation.betas ∙ ap (λ k. k + 1) (sym (length-map t.levels (λ level. affine_at level [] [] []))) in
+pub common_levels : (w : Widths) (parameters : ℕ) (s t : Schedule) → SchedulesFit w parameters s t
+    → (common_loops s.betas t.betas ≤ length s.levels) × (common_loops s.betas t.betas ≤ length t.levels)
+common_levels w parameters s t fits =
+    let source : length s.betas ≡ length (levels_at s.levels [] [] []) + 1 = fits.source_betas ∙ ap (λ k. k + 1) (sym (length-map s.levels (λ level. affine_at level [] [] []))) in
+    let target : length t.betas ≡ length (levels_at t.levels [] [] []) + 1 = fits.target_betas ∙ ap (λ k. k + 1) (sym (length-map t.levels (λ level. affine_at level [] [] []))) in
     let both = loops_are_common s.betas t.betas (levels_at s.levels [] [] []) (levels_at t.levels [] [] []) source target in
     (omega (arith, both.0, length-map s.levels (λ level. affine_at level [] [] [])), omega (arith, both.1, length-map t.levels (λ level. affine_at level [] [] [])))
+
+pub schedules_fit : (m : Pairing) → PairingFits m → SchedulesFit (widths_of m) m.context.shape.parameters m.source_schedule m.target_schedule
+schedules_fit m fits = record {
+  source_levels = fits.source_schedule.relation.levels;
+  target_levels = fits.target_schedule.relation.levels;
+  source_betas = fits.source_schedule.relation.betas;
+  target_betas = fits.target_schedule.relation.betas;
+}
 
 -- the rows of a level hold where the level orders the two
 pub level_meets : (m : Pairing) (level : ℕ) (x y l k u v n : List ℤ) → PairingFits m → HasWidths (widths_of m) x y l k u v → length n ≡ m.context.shape.parameters
     → IsLevel m.source_schedule.betas m.target_schedule.betas level
-    → MeetsAll (level_rows m level) (in_columns x y l k u v (n ++ pos 1 ∷ []))
+    → MeetsAll (level_rows (widths_of m) m.source_schedule m.target_schedule level) (in_columns x y l k u v (n ++ pos 1 ∷ []))
     ↔ OrdersAt (common_loops m.source_schedule.betas m.target_schedule.betas) (levels_at m.source_schedule.levels x u n) (levels_at m.target_schedule.levels y v n) level
 level_meets m zero x y l k u v n fits at en is_level =
     let w = widths_of m in
-    let common = common_levels m fits in
+    let common = common_levels w m.context.shape.parameters m.source_schedule m.target_schedule (schedules_fit m fits) in
     equal_rows_meet w (common_loops m.source_schedule.betas m.target_schedule.betas) m.source_schedule.levels m.target_schedule.levels x y l k u v n at common.0 common.1
     (subst (λ c. All (HasSizes w.source w.source_floors c) m.source_schedule.levels) (sym en) fits.source_schedule.relation.levels)
     (subst (λ c. All (HasSizes w.target w.target_floors c) m.target_schedule.levels) (sym en) fits.target_schedule.relation.levels)
 level_meets m (suc j) x y l k u v n fits at en is_level =
     let w = widths_of m in
     let whole = in_columns x y l k u v (n ++ pos 1 ∷ []) in
-    let common = common_levels m fits in
+    let common = common_levels w m.context.shape.parameters m.source_schedule m.target_schedule (schedules_fit m fits) in
     let means = less_rows_meet w j m.source_schedule.levels m.target_schedule.levels x y l k u v n at (omega (arith, is_level, common.0)) (omega (arith, is_level, common.1))
     (subst (λ c. All (HasSizes w.source w.source_floors c) m.source_schedule.levels) (sym en) fits.source_schedule.relation.levels)
     (subst (λ c. All (HasSizes w.target w.target_floors c) m.target_schedule.levels) (sym en) fits.target_schedule.relation.levels) in (
-      λ h. means.0 (meets_front (equal_rows m j) (less_rows m j) whole h, meets_back (equal_rows m j) (less_rows m j) whole h),
-      λ h. let r = means.1 h in meets_append (equal_rows m j) (less_rows m j) whole r.0 r.1,
+      λ h. means.0 (meets_front (equal_rows w m.source_schedule.levels m.target_schedule.levels j) (less_rows w m.source_schedule.levels m.target_schedule.levels j) whole h, meets_back (equal_rows w m.source_schedule.levels m.target_schedule.levels j) (less_rows w m.source_schedule.levels m.target_schedule.levels j) whole h),
+      λ h. let r = means.1 h in meets_append (equal_rows w m.source_schedule.levels m.target_schedule.levels j) (less_rows w m.source_schedule.levels m.target_schedule.levels j) whole r.0 r.1,
     )

@@ -1,7 +1,9 @@
 -- When the rows of a system are as wide as its columns.
-use Rattle.std.specs.Prelude.{◌≡◌, ℕ, List, length, All}
+use Rattle.std.specs.Prelude.{◌≡◌, ℕ, ◌+◌, List, length, All}
 use Rattle.relation_core.specs.Systems.{System}
 use Rattle.scop_core.specs.declared.affines.Affine.{Affine}
+use Rattle.scop_core.specs.declared.schedules.Schedule.{Schedule}
+use Rattle.dependence_systems.specs.declared.widths.Widths.{Widths}
 use Rattle.scop_core.specs.SolvedRows.{HasSizes}
 use Rattle.scop_core.specs.Held.{IsFormed}
 use Rattle.scop_core.specs.Printable.{IsContext, IsDomainPart}
@@ -15,6 +17,13 @@ pub record SideFits (parameters : ℕ) (side : Side) : Type 0 where
   pub formed : All IsFormed side.domain
   pub accesses : All (IsSolvedAccess side.iterators parameters) side.accesses
   pub schedule : IsSolvedSchedule side.iterators parameters side.schedule
+
+-- levels have a coefficient for each iterator, each floor and each parameter, and there is one beta more
+pub record SchedulesFit (w : Widths) (parameters : ℕ) (source target : Schedule) : Type 0 where
+  pub source_levels : All (HasSizes w.source w.source_floors parameters) source.levels
+  pub target_levels : All (HasSizes w.target w.target_floors parameters) target.levels
+  pub source_betas : length source.betas ≡ length source.levels + 1
+  pub target_betas : length target.betas ≡ length target.levels + 1
 
 -- subscripts have a coefficient for each iterator and each parameter, and none for floors
 abbrev pub SubscriptsFit : ℕ → ℕ → List Affine → Type 0

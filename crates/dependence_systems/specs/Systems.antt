@@ -27,16 +27,19 @@ pub record Pairing : Type 0 where
   pub source_schedule : Schedule
   pub target_schedule : Schedule
 
--- the numbers of its columns but for the parameters
-abbrev pub widths_of : Pairing → Widths
-widths_of m = record {
-  source = m.source_part.shape.outputs;
-  target = m.target_part.shape.outputs;
-  source_part = m.source_part.shape.locals;
-  target_part = m.target_part.shape.locals;
-  source_floors = length m.source_schedule.floors;
-  target_floors = length m.target_schedule.floors;
+-- the numbers of columns for two domain parts and two schedules, but for the parameters
+abbrev pub widths_for : System → System → Schedule → Schedule → Widths
+widths_for source_part target_part source target = record {
+  source = source_part.shape.outputs;
+  target = target_part.shape.outputs;
+  source_part = source_part.shape.locals;
+  target_part = target_part.shape.locals;
+  source_floors = length source.floors;
+  target_floors = length target.floors;
 }
+
+abbrev pub widths_of : Pairing → Widths
+widths_of m = widths_for m.source_part m.target_part m.source_schedule m.target_schedule
 
 -- source iterators, target iterators, locals of the source part, of the target part, source floors,
 -- target floors, and then the parameters and the constant
@@ -118,25 +121,25 @@ base_rows m =
     ++ rows_between (subscript_row w) m.source_access.subscripts m.target_access.subscripts
 
 -- the rows that say that the first k levels are equal
-abbrev pub equal_rows : Pairing → ℕ → List PartRow
-equal_rows m k = rows_between (equal_row (widths_of m)) (take k m.source_schedule.levels) (take k m.target_schedule.levels)
+abbrev pub equal_rows : Widths → List Affine → List Affine → ℕ → List PartRow
+equal_rows w source target k = rows_between (equal_row w) (take k source) (take k target)
 
 -- the row that says that level k, from 0, is less in the source
-abbrev pub less_rows : Pairing → ℕ → List PartRow
-less_rows m k = rows_between (less_row (widths_of m)) (take 1 (drop k m.source_schedule.levels)) (take 1 (drop k m.target_schedule.levels))
+abbrev pub less_rows : Widths → List Affine → List Affine → ℕ → List PartRow
+less_rows w source target k = rows_between (less_row w) (take 1 (drop k source)) (take 1 (drop k target))
 
 -- the rows of a level: the levels before it are equal, and it is less in the source; for level 0 all
 -- levels in common are equal
-abbrev pub level_rows : Pairing → ℕ → List PartRow
-level_rows m zero = equal_rows m (common_loops m.source_schedule.betas m.target_schedule.betas)
-level_rows m (suc k) = equal_rows m k ++ less_rows m k
+abbrev pub level_rows : Widths → Schedule → Schedule → ℕ → List PartRow
+level_rows w source target zero = equal_rows w source.levels target.levels (common_loops source.betas target.betas)
+level_rows w source target (suc k) = equal_rows w source.levels target.levels k ++ less_rows w source.levels target.levels k
 
 -- the system of two accesses to the subscripts, and that of one level
 abbrev pub base_of : Pairing → System
 base_of m = record { shape = system_shape m; rows = base_rows m }
 
 abbrev pub level_system : Pairing → ℕ → System
-level_system m level = record { shape = system_shape m; rows = base_rows m ++ level_rows m level }
+level_system m level = record { shape = system_shape m; rows = base_rows m ++ level_rows (widths_of m) m.source_schedule m.target_schedule level }
 
 -- what stands where a number is out of range
 abbrev pub no_part : System
@@ -187,19 +190,22 @@ abbrev pub base_weight : Pairing → ℕ
 base_weight m = weight_between (pos 1) (negsuc 0) (pos 0) m.source_access.subscripts m.target_access.subscripts
 
 -- that of the first k levels, where they are equal
-abbrev pub equal_weight : Pairing → ℕ → ℕ
-equal_weight m k = weight_between (pos 1) (negsuc 0) (pos 0) (take k m.source_schedule.levels) (take k m.target_schedule.levels)
+abbrev pub equal_weight : List Affine → List Affine → ℕ → ℕ
+equal_weight source target k = weight_between (pos 1) (negsuc 0) (pos 0) (take k source) (take k target)
 
 -- that of level k, from 0, where it is less
-abbrev pub less_weight : Pairing → ℕ → ℕ
-less_weight m k = weight_between (negsuc 0) (pos 1) (negsuc 0) (take 1 (drop k m.source_schedule.levels)) (take 1 (drop k m.target_schedule.levels))
+abbrev pub less_weight : List Affine → List Affine → ℕ → ℕ
+less_weight source target k = weight_between (negsuc 0) (pos 1) (negsuc 0) (take 1 (drop k source)) (take 1 (drop k target))
 
 -- that of the rows of a level
-abbrev pub level_weight : Pairing → ℕ → ℕ
-level_weight m zero = equal_weight m (common_loops m.source_schedule.betas m.target_schedule.betas)
-level_weight m (suc k) = max (equal_weight m k) (less_weight m k)
+abbrev pub level_weight : Schedule → Schedule → ℕ → ℕ
+level_weight source target zero = equal_weight source.levels target.levels (common_loops source.betas target.betas)
+level_weight source target (suc k) = max (equal_weight source.levels target.levels k) (less_weight source.levels target.levels k)
+
+-- that of a whole system
+abbrev pub system_weight : Pairing → ℕ → ℕ
+system_weight m level = max (base_weight m) (level_weight m.source_schedule m.target_schedule level)
 
 -- the greatest sum of the absolute values of the summands of an entry in an entry's system
 abbrev pub summand_weight : System → List Side → Dep → ℕ
-summand_weight context sides e =
-    let m = pairing_of context sides e in max (base_weight m) (level_weight m e.level)
+summand_weight context sides e = system_weight (pairing_of context sides e) e.level
