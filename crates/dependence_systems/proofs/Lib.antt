@@ -1,6 +1,7 @@
 mod Checks
 pub mod Differences
 pub mod EntryFound
+pub mod LevelCounts
 pub mod LevelTests
 pub mod Members
 pub mod Pairs

@@ -18,7 +18,12 @@ pub record SideFits (parameters : ℕ) (side : Side) : Type 0 where
   pub accesses : All (IsSolvedAccess side.iterators parameters) side.accesses
   pub schedule : IsSolvedSchedule side.iterators parameters side.schedule
 
--- levels have a coefficient for each iterator, each floor and each parameter, and there is one beta more
+-- levels have a coefficient for each iterator, each floor and each parameter
+pub record LevelsFit (w : Widths) (parameters : ℕ) (xs ys : List Affine) : Type 0 where
+  pub source : All (HasSizes w.source w.source_floors parameters) xs
+  pub target : All (HasSizes w.target w.target_floors parameters) ys
+
+-- so have those of two schedules, which have one beta more than levels
 pub record SchedulesFit (w : Widths) (parameters : ℕ) (source target : Schedule) : Type 0 where
   pub source_levels : All (HasSizes w.source w.source_floors parameters) source.levels
   pub target_levels : All (HasSizes w.target w.target_floors parameters) target.levels

@@ -5,6 +5,7 @@
 mod comparing;
 mod deps;
 pub mod laws;
+mod level_rows;
 mod level_tests;
 mod pieces;
 mod placing;
