@@ -17,9 +17,7 @@ use suite_base::{List, NoMemory, Text};
 pub fn copied_text(alloc: Global, text: &Text) -> Result<Text, NoMemory>
     ensures { IfOk result (λ made. made ≡ text.now) }
 {
-    let mut made = Text::new(alloc);
-    made.push_bytes(text.bytes())?;
-    Ok(made)
+    Text::from_bytes(alloc, text.bytes())
 }
 
 /// A copy of a list of texts.

@@ -9,7 +9,7 @@ ghost use Rattle.scop_reader.specs.Rules as spec;
 use crate::cursors::{Cursor, bad_line};
 use crate::extension_names::{is_opening, opened_name};
 use crate::kept_lines::kept;
-use crate::line_rules::{closing, count_line, literal, text_of};
+use crate::line_rules::{closing, count_line, literal};
 use crate::line_words::LineWords;
 use crate::number_words::number_from;
 use crate::text_lines::TextLine;
@@ -33,7 +33,7 @@ fn array_of(alloc: Global, line: &TextLine<'_>) -> Result<(Coeff, Text), Fail>
         return Err(bad_line(line.number()));
     }
     let identifier = number_from(line, &identifier, 1)?;
-    let name = text_of(alloc, name.bytes())?;
+    let name = Text::from_bytes(alloc, name.bytes())?;
     Ok((identifier, name))
 }
 

@@ -4,7 +4,7 @@ ghost use Rattle.scop_reader.specs.Reading.{Reads};
 ghost use Rattle.scop_reader.specs.Rules as spec;
 
 use crate::cursors::{Cursor, bad_line};
-use crate::line_rules::{closing, count_line, text_of, word_line};
+use crate::line_rules::{closing, count_line, word_line};
 use scop_core::Body;
 use std::alloc::Global;
 use suite_base::{Fail, List, Text};
@@ -48,7 +48,7 @@ fn body_text(alloc: Global, cursor: &mut Cursor<'_>) -> Result<Text, Fail>
 {
     no_end(cursor)?;
     let line = cursor.said_line()?;
-    let text = text_of(alloc, line.content())?;
+    let text = Text::from_bytes(alloc, line.content())?;
     Ok(text)
 }
 

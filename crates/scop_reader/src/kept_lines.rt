@@ -6,7 +6,6 @@ ghost use Rattle.scop_reader.specs.Reading.{Reads};
 ghost use Rattle.scop_reader.specs.Rules as spec;
 
 use crate::cursors::{Cursor, bad_line};
-use crate::line_rules::text_of;
 use scop_core::Extension;
 use std::alloc::Global;
 use suite_base::{Fail, List, NoMemory, Text, trimmed};
@@ -34,7 +33,7 @@ fn kept_lines(alloc: Global, cursor: &mut Cursor<'_>, name: &[u8]) -> Result<Lis
         if trimmed(line.bytes()) == last {
             return Ok(found);
         }
-        let text = text_of(alloc, line.bytes())?;
+        let text = Text::from_bytes(alloc, line.bytes())?;
         found.push(text)?;
     }
     Err(bad_line(cursor.number()))
@@ -46,6 +45,6 @@ pub fn kept(alloc: Global, cursor: &mut Cursor<'_>, name: &[u8]) -> Result<Exten
     ensures { Reads (spec.kept name.now cursor.old) result cursor.new }
 {
     let lines = kept_lines(alloc, cursor, name)?;
-    let name = text_of(alloc, name)?;
+    let name = Text::from_bytes(alloc, name)?;
     Ok(Extension { name, lines })
 }

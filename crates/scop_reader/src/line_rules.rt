@@ -37,15 +37,6 @@ pub fn closing(cursor: &mut Cursor<'_>, text: &[u8]) -> Result<(), Fail>
     Ok(())
 }
 
-/// A text of these bytes.
-pub fn text_of(alloc: Global, bytes: &[u8]) -> Result<Text, NoMemory>
-    ensures { IfOk result (λ text. text ≡ bytes.now) }
-{
-    let mut text = Text::new(alloc);
-    text.push_bytes(bytes)?;
-    Ok(text)
-}
-
 /// The words of a line, as texts.
 fn texts_of(alloc: Global, line: &TextLine<'_>) -> Result<List<Text>, NoMemory>
     ensures { IfOk result (λ texts. texts ≡ word_bytes (words_of line.now.bytes)) }
@@ -53,7 +44,7 @@ fn texts_of(alloc: Global, line: &TextLine<'_>) -> Result<List<Text>, NoMemory>
     let mut made = List::new(alloc);
     let mut words = LineWords::new(line);
     while let Some(word) = words.next() {
-        made.push(text_of(alloc, word.bytes())?)?;
+        made.push(Text::from_bytes(alloc, word.bytes())?)?;
     }
     Ok(made)
 }
@@ -76,7 +67,7 @@ fn first_word(alloc: Global, line: &TextLine<'_>) -> Result<Text, NoMemory>
     ensures { IfOk result (λ text. text ≡ spec.first_of (word_bytes (words_of line.now.bytes))) }
 {
     match LineWords::new(line).next() {
-        Some(word) => text_of(alloc, word.bytes()),
+        Some(word) => Text::from_bytes(alloc, word.bytes()),
         None => Ok(Text::new(alloc)),
     }
 }

@@ -34,7 +34,7 @@ fn loop_pieces(alloc: Global, text: &LoopText<'_>) -> Result<ScopPieces, NoMemor
     requires { is_short_number text.now.start.now ≡ true }
     ensures { IfOk result (λ found. found ≡ pieces.pieces_of (spec.loop_of (spec.words_of text.now))) }
 {
-    let language = text_of(alloc, b"C")?;
+    let language = Text::from_bytes(alloc, b"C")?;
     let parameters = one_text(alloc, text.parameter)?;
     let statements = one_statement(alloc, text)?;
     let arrays = one_array(alloc, text.array)?;
@@ -56,21 +56,12 @@ fn loop_pieces(alloc: Global, text: &LoopText<'_>) -> Result<ScopPieces, NoMemor
     })
 }
 
-/// A text with these bytes.
-fn text_of(alloc: Global, bytes: &[u8]) -> Result<Text, NoMemory>
-    ensures { IfOk result (λ text. text ≡ bytes.now) }
-{
-    let mut text = Text::new(alloc);
-    text.push_bytes(bytes)?;
-    Ok(text)
-}
-
 /// The list of one text with these bytes.
 fn one_text(alloc: Global, bytes: &[u8]) -> Result<List<Text>, NoMemory>
     ensures { IfOk result (λ texts. texts ≡ bytes.now ∷ []) }
 {
     let mut texts = List::new(alloc);
-    texts.push(text_of(alloc, bytes)?)?;
+    texts.push(Text::from_bytes(alloc, bytes)?)?;
     Ok(texts)
 }
 
@@ -79,7 +70,7 @@ fn one_array(alloc: Global, name: &[u8]) -> Result<List<(Coeff, Text)>, NoMemory
     ensures { IfOk result (λ arrays. arrays ≡ (pos 1, name.now) ∷ []) }
 {
     let mut arrays = List::new(alloc);
-    arrays.push((Coeff::ONE, text_of(alloc, name)?))?;
+    arrays.push((Coeff::ONE, Text::from_bytes(alloc, name)?))?;
     Ok(arrays)
 }
 
@@ -190,7 +181,7 @@ fn loop_body(alloc: Global, text: &LoopText<'_>) -> Result<Body, NoMemory>
     ensures body { IfOk result (λ body. body.text ≡ spec.assignment_text text.now.array.now text.now.iterator.now text.now.value.now) }
     ensures names { IfOk result (λ body. body.iterators ≡ text.now.iterator.now ∷ []) }
 {
-    let mut assignment = text_of(alloc, text.array)?;
+    let mut assignment = Text::from_bytes(alloc, text.array)?;
     assignment.push_bytes(b"[")?;
     assignment.push_bytes(text.iterator)?;
     assignment.push_bytes(b"] = ")?;
