@@ -9,7 +9,8 @@ use Rattle.suite_base.specs.Numbers.{number_read}
 use Rattle.suite_base.proofs.LineCuts.{bool_tells}
 use Rattle.clay_script.specs.declared.tokens.Token.{Token}
 use Rattle.clay_script.specs.declared.tokens.Lexeme.{Lexeme}
-use Rattle.clay_script.specs.Lexemes.{is_letter, is_gap, begins_number, sign_token, number_token, token_of, token_length, place_after, lexemes}
+use Rattle.suite_base.specs.Bytes.{is_letter}
+use Rattle.clay_script.specs.Lexemes.{is_gap, begins_number, sign_token, number_token, token_of, token_length, place_after, lexemes}
 use Rattle.clay_script.specs.Taking.{left_after, Takes, BeginsToken}
 
 pub prefix_within : (p : ℕ → Bool) (s : List ℕ) → prefix_len p s ≤ length s

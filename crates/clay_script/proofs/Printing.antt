@@ -20,7 +20,8 @@ use Rattle.clay_script.specs.declared.command_names.CommandName.TheVariants.{Fis
 use Rattle.clay_script.specs.declared.commands.Command.{Command}
 use Rattle.clay_script.specs.Names.{letters_of}
 use Rattle.clay_script.specs.Commands.{Argument, OneNumber, OneVector, name_of, prefix_of, more_of, arguments_of}
-use Rattle.clay_script.specs.Lexemes.{is_letter, is_gap, begins_number, number_token, token_of, token_length, place_after, line_length, lexemes, first_place}
+use Rattle.suite_base.specs.Bytes.{is_letter}
+use Rattle.clay_script.specs.Lexemes.{is_gap, begins_number, number_token, token_of, token_length, place_after, line_length, lexemes, first_place}
 use Rattle.clay_script.specs.Layout.{behind_comma, comma_joined, vector_text, argument_text, command_text, layout, FitsArgument, FitArguments, FitCommands}
 use Rattle.clay_script.specs.Grammar.{after_comma, one_number, separated, vector_tokens, argument_tokens, command_tokens, script_tokens, tokens_of, IsScript}
 

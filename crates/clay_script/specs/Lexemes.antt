@@ -4,16 +4,13 @@ use Rattle.std.specs.List.{prefix_len}
 use Rattle.suite_base.specs.declared.places.Place.{Place}
 use Rattle.suite_base.specs.declared.numbers.NumberRead.{NumberRead}
 use Rattle.suite_base.specs.declared.numbers.NumberRead.TheVariants as read
+use Rattle.suite_base.specs.Bytes.{is_letter}
 use Rattle.suite_base.specs.Lines.{is_blank}
 use Rattle.suite_base.specs.Numbers.{is_digit, number_read}
 use Rattle.clay_script.specs.declared.tokens.Token.{Token}
 use Rattle.clay_script.specs.declared.tokens.Token.TheVariants.{Name, Number, TooLarge, OpenRound, CloseRound, OpenSquare, CloseSquare, Comma, Semicolon, Stray, End}
 use Rattle.clay_script.specs.declared.tokens.Lexeme.{Lexeme}
 use Rattle.clay_script.specs.Names.{named}
-
--- a letter, small or capital
-abbrev pub is_letter : ℕ → Bool
-is_letter b = (nat_le 97 b && nat_le b 122) || (nat_le 65 b && nat_le b 90)
 
 -- a byte between tokens: a blank or a newline
 abbrev pub is_gap : ℕ → Bool

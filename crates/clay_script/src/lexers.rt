@@ -3,13 +3,14 @@
 ghost use Rattle.std.specs.Prelude.{◌≡◌, ◌+◌, ◌-◌, ◌<◌, ◌≤◌, ◌^◌, length, take, not, ◌==◌};
 ghost use Rattle.std.specs.List.{prefix_len};
 ghost use Rattle.suite_base.specs.Numbers.{is_digit, number_read};
-ghost use Rattle.clay_script.specs.Lexemes.{place_after, first_place, is_letter, is_gap, begins_number, sign_token, number_token, token_of, token_length, line_length, lexemes};
+ghost use Rattle.suite_base.specs.Bytes.{is_letter};
+ghost use Rattle.clay_script.specs.Lexemes.{place_after, first_place, is_gap, begins_number, sign_token, number_token, token_of, token_length, line_length, lexemes};
 ghost use Rattle.clay_script.specs.Taking.{Takes, BeginsToken};
 
 use crate::command_names::command_named;
 use crate::tokens::{Lexeme, Token};
 use row_core::Coeff;
-use suite_base::{NumberRead, Place, is_blank_byte, is_digit_byte, read_number};
+use suite_base::{NumberRead, Place, is_blank_byte, is_digit_byte, is_letter_byte, read_number};
 
 /// What is left of a text, and the place at which it begins.
 #[derive(Drop)]
@@ -103,13 +104,6 @@ fn is_gap_byte(byte: u8) -> bool
     ensures { result ≡ is_gap byte }
 {
     is_blank_byte(byte) || byte == b'\n'
-}
-
-/// Whether `byte` is a letter.
-fn is_letter_byte(byte: u8) -> bool
-    ensures { result ≡ is_letter byte }
-{
-    (b'a' <= byte && byte <= b'z') || (b'A' <= byte && byte <= b'Z')
 }
 
 /// Whether `byte` begins a number.
