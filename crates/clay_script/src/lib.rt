@@ -12,5 +12,5 @@ mod vectors;
 
 pub use commands::{Command, Script};
 pub use printers::print_script;
-pub use readers::{MAX_COMMANDS, read_script};
+pub use readers::read_script;
 pub use vectors::Vector;

@@ -1,6 +1,7 @@
 //! Reading a script: one function for each form of its grammar.
 
 ghost use Rattle.std.specs.Prelude.{◌≡◌, ◌+◌, ◌<◌, ◌≤◌, ◌^◌, List, length, IfOk, IfErr};
+ghost use Rattle.suite_base.specs.Limits.{max_commands};
 ghost use Rattle.suite_base.specs.declared.refusals.Refusal.{Refusal};
 ghost use Rattle.clay_script.specs.declared.commands.Command.{Command};
 ghost use Rattle.clay_script.specs.Grammar.{IsScript, FirstFault, Refuses};
@@ -15,10 +16,7 @@ use crate::tokens::{Lexeme, Token};
 use crate::vectors::Vector;
 use row_core::Coeff;
 use std::alloc::Global;
-use suite_base::{Fail, Place, Refusal, Which};
-
-/// The most commands that a script may have.
-pub const MAX_COMMANDS: usize = 4096;
+use suite_base::{Fail, MAX_COMMANDS, Place, Refusal, Which};
 
 /// Reads a text as a script. The text has fewer than 2^32 - 1 bytes.
 ///
@@ -29,13 +27,13 @@ pub const MAX_COMMANDS: usize = 4096;
 pub fn read_script(alloc: Global, bytes: &[u8]) -> Result<Script, Fail>
     requires { length bytes.now + 1 < 2 ^ 32 }
     // What is read is a text of the script.
-    ensures found { IfOk result (λ script. IsScript bytes.now script × (length script ≤ 4096)) }
+    ensures found { IfOk result (λ script. IsScript bytes.now script × (length script ≤ max_commands)) }
     // A text of a script is read as it, unless memory runs out.
-    ensures only { (script : List Command) → IsScript bytes.now script → length script ≤ 4096 → Answers result (Ok script) }
+    ensures only { (script : List Command) → IsScript bytes.now script → length script ≤ max_commands → Answers result (Ok script) }
     // A refusal names the first fault.
-    ensures refused { IfErr result (λ fail. Refuses fail (FirstFault 4096 (lexemes_of bytes.now))) }
+    ensures refused { IfErr result (λ fail. Refuses fail (FirstFault max_commands (lexemes_of bytes.now))) }
     // A text with a fault is refused by it, unless memory runs out.
-    ensures first { (refusal : Refusal) → FirstFault 4096 (lexemes_of bytes.now) refusal → Answers result (Err refusal) }
+    ensures first { (refusal : Refusal) → FirstFault max_commands (lexemes_of bytes.now) refusal → Answers result (Err refusal) }
 {
     let mut lexer = Lexer::new(bytes);
     read_commands(alloc, &mut lexer)
@@ -43,7 +41,7 @@ pub fn read_script(alloc: Global, bytes: &[u8]) -> Result<Script, Fail>
 
 /// Takes commands to the end of the text.
 fn read_commands(alloc: Global, lexer: &mut Lexer<'_>) -> Result<Script, Fail>
-    ensures { Answers result (commands_at 4096 (lexemes 0 lexer.old.place lexer.old.rest.now)) }
+    ensures { Answers result (commands_at max_commands (lexemes 0 lexer.old.place lexer.old.rest.now)) }
 {
     let mut script = Script::new(alloc);
     while let Some(name) = next_name(lexer)? {

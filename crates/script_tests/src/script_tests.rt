@@ -1,6 +1,6 @@
 //! Scripts read, refused and printed, as tables.
 
-use clay_script::{MAX_COMMANDS, Script, print_script, read_script};
+use clay_script::{Script, print_script, read_script};
 use std::alloc::Global;
 use std::test::Fail as TestFail;
 use suite_base::{Fail, Place, Refusal, Text, Which};
@@ -106,13 +106,13 @@ fn numbers_past_the_range_are_refused(rt: HostRuntime) {
 #[test]
 fn commands_are_counted(rt: HostRuntime) -> Result<(), TestFail> {
     let mut text = Text::new(rt.alloc());
-    for _ in 0..MAX_COMMANDS {
+    for _ in 0..4_096 {
         text.push_bytes(b"fuse([0]);\n").ok().ok_or("memory")?;
     }
     let script = script_of(rt.alloc(), text.bytes())
         .ok()
         .ok_or("the text is a script")?;
-    assert_eq!(rt; script.len(), MAX_COMMANDS);
+    assert_eq!(rt; script.len(), 4_096);
     let printed = print_script(rt.alloc(), &script).ok().ok_or("memory")?;
     assert!(rt; printed.bytes() == text.bytes());
     text.push_bytes(b"fus").ok().ok_or("memory")?;
