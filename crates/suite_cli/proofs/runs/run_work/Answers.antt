@@ -1,4 +1,4 @@
-use Rattle.std.proofs.Common.{◌≡◌, ◌∙◌, ◌≤◌, ℕ, List, ap, length, refl, subst, sym}
+use Rattle.std.proofs.Common.{◌∙◌, ◌≤◌, ℕ, List, ap, length, refl, subst, sym}
 use Rattle.std.specs.List.{All}
 use Rattle.suite_base.specs.Limits.{max_input}
 use Rattle.suite_cli.specs.Commands.{Command, command_of, files_of}
