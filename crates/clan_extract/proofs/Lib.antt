@@ -15,6 +15,7 @@ pub mod Meanings
 pub mod BetaClashes
 pub mod StatementPieces
 pub mod ReadBacks
+pub mod Counts
 mod Checks
 mod ScopChecks
 mod RefusalChecks

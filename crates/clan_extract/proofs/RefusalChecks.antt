@@ -1,11 +1,12 @@
 -- Refusals of regions, as they are worked out by hand. Most is the greatest coefficient.
 use Rattle.std.proofs.Common.{◌≡◌, refl, [], ◌∷◌, ℕ, zero, suc, ◌-◌, ◌^◌, pos, Some, None}
-use Rattle.std.specs.Prelude.{Option}
+use Rattle.std.specs.Prelude.{Option, true, false}
 use Rattle.suite_base.specs.declared.refusals.Refusal.{Refusal}
 use Rattle.suite_base.specs.declared.refusals.Refusal.TheVariants.{Limit, TooManyParts, Overflow}
 use Rattle.suite_base.specs.declared.refusals.Which.TheVariants.{Rows, Locals}
 use Rattle.suite_base.specs.declared.refusals.Where.TheVariants.{Statement as OfStatement}
 use Rattle.clan_extract.specs.Regions.{Expression, Number, Name, Sum, Difference, Product, Negation, Ceiling, Remainder, IsLess, IsEqual, Condition, Compare, Both, Nodes, NoNodes, Then, If, Block}
+use Rattle.clan_extract.specs.Counts.{condition_count}
 use Rattle.clan_extract.specs.Refusals.{refusal_of}
 use Rattle.clan_extract.proofs.ScopChecks.{i, N, A, B, set, one, loop, many}
 
@@ -79,3 +80,11 @@ rows_kept = refl
 
 rows_passed : refusal (one (If (rows 256) (set A (Number 0)) NoNodes)) ≡ Some (Limit Rows 1)
 rows_passed = refl
+
+-- 400 conditions of two parts, which nobody makes
+counted : condition_count true (many 399) ≡ record { parts = 2 ^ 400; rows = 400; locals = 0 }
+counted = refl
+
+-- behind else they are 400 parts of one row
+counted_behind_else : condition_count false (many 399) ≡ record { parts = 400; rows = 1; locals = 0 }
+counted_behind_else = refl

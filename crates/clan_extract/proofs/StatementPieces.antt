@@ -141,7 +141,7 @@ module _ (parameters : List (List ℕ)) where
   some_sides loops comparison (Floor e d) right = some_comparison comparison _ _
   some_sides loops comparison (Remainder e d) right = some_remainder comparison _ d
 
-  some_condition : (loops : List (List ℕ)) (c : Condition) (truth : Bool) → HasSome (parts_of_condition parameters loops truth c)
+  pub some_condition : (loops : List (List ℕ)) (c : Condition) (truth : Bool) → HasSome (parts_of_condition parameters loops truth c)
   some_condition loops (Compare comparison left right) true = some_sides loops comparison left right
   some_condition loops (Compare comparison left right) false = some_sides loops (opposite_comparison comparison) left right
   some_condition loops (Both left right) true = some_joined _ _ (some_condition loops left true) (some_condition loops right true)

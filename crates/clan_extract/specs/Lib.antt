@@ -7,3 +7,4 @@ pub mod Constraints
 pub mod Scops
 pub mod Refusals
 pub mod ReadBack
+pub mod Counts

@@ -1,6 +1,7 @@
 //! The laws of the translation: functions that do nothing, and whose contracts are the laws.
 
 ghost use Rattle.clan_extract.specs.Execution.{LoopsRunAsLongAs};
+ghost use Rattle.clan_extract.specs.Counts.{PartsAreCounted};
 ghost use Rattle.clan_extract.specs.ReadBack.{ScopReadsBack};
 ghost use Rattle.clan_extract.specs.Scops.{ScopMeansItsRegion, ScopHasItsNames};
 ghost use Rattle.clan_extract.specs.Translation.{OneLoopMeansItsRegion, OneLoopHasItsNames};
@@ -39,4 +40,10 @@ pub fn scop_has_its_names()
 /// beta vectors clash.
 pub fn scop_reads_back()
     ensures { ScopReadsBack }
+{}
+
+/// The parts of a statement's domain, and the most rows and locals of a part, are counted from the
+/// loops and conditions round the statement alone, without making a part.
+pub fn parts_are_counted()
+    ensures { PartsAreCounted }
 {}
