@@ -16,6 +16,7 @@ pub mod BetaClashes
 pub mod StatementPieces
 pub mod ReadBacks
 pub mod Counts
+pub mod RowRanges
 mod Checks
 mod ScopChecks
 mod RefusalChecks

@@ -8,3 +8,4 @@ pub mod Scops
 pub mod Refusals
 pub mod ReadBack
 pub mod Counts
+pub mod RowRanges

@@ -3,6 +3,7 @@
 ghost use Rattle.clan_extract.specs.Execution.{LoopsRunAsLongAs};
 ghost use Rattle.clan_extract.specs.Counts.{PartsAreCounted};
 ghost use Rattle.clan_extract.specs.ReadBack.{ScopReadsBack};
+ghost use Rattle.clan_extract.specs.RowRanges.{RowsFitOnce};
 ghost use Rattle.clan_extract.specs.Scops.{ScopMeansItsRegion, ScopHasItsNames};
 ghost use Rattle.clan_extract.specs.Translation.{OneLoopMeansItsRegion, OneLoopHasItsNames};
 
@@ -46,4 +47,10 @@ pub fn scop_reads_back()
 /// loops and conditions round the statement alone, without making a part.
 pub fn parts_are_counted()
     ensures { PartsAreCounted }
+{}
+
+/// The rows of all parts of a domain are in range exactly where those of each loop and each comparison
+/// are, asked once.
+pub fn rows_fit_once()
+    ensures { RowsFitOnce }
 {}
