@@ -1,3 +1,4 @@
+pub mod BuilderFits
 mod Checks
 pub mod Differences
 pub mod EntryFound

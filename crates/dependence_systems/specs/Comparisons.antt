@@ -5,7 +5,8 @@ use Rattle.row_core.specs.Rows.{scale}
 use Rattle.relation_core.specs.declared.part_rows.PartRow.{PartRow}
 use Rattle.relation_core.specs.declared.part_rows.RowKind.{RowKind}
 use Rattle.relation_core.specs.declared.part_rows.RowKind.TheVariants.{Equal, AtLeast}
-use Rattle.relation_core.specs.Systems.{row_at}
+use Rattle.relation_core.specs.declared.shapes.Shape.{Shape}
+use Rattle.relation_core.specs.Systems.{System, row_at}
 use Rattle.scop_core.specs.declared.affines.Affine.{Affine}
 use Rattle.scop_core.specs.SolvedRows.{zeros, HasSizes}
 use Rattle.dependence_systems.specs.declared.widths.Widths.{Widths}
@@ -95,3 +96,16 @@ starts_common (b ∷ []) q = false
 starts_common (b ∷ (b' ∷ p)) [] = false
 starts_common (b ∷ (b' ∷ p)) (c ∷ []) = false
 starts_common (b ∷ (b' ∷ p)) (c ∷ (c' ∷ q)) = int_eq b c
+
+-- the columns of a part of one side are those of which its rows speak, and so many parameters
+pub record HasColumns (topic : Topic) (w : Widths) (parameters : ℕ) (shape : Shape) : Type 0 where
+  pub own : shape.outputs + shape.inputs + shape.locals ≡ reach_of topic w
+  pub parameters_are : shape.parameters ≡ parameters
+
+-- so it is with the context, two domain parts and the floors of two sides
+pub record SharedFit (w : Widths) (context source_part target_part source_floors target_floors : System) : Type 0 where
+  pub of_context : HasColumns Context w context.shape.parameters context.shape
+  pub of_source_part : HasColumns SourcePart w context.shape.parameters source_part.shape
+  pub of_target_part : HasColumns TargetPart w context.shape.parameters target_part.shape
+  pub of_source_floors : HasColumns SourceFloors w context.shape.parameters source_floors.shape
+  pub of_target_floors : HasColumns TargetFloors w context.shape.parameters target_floors.shape

@@ -4,7 +4,7 @@ use Rattle.relation_core.specs.Systems.{System}
 use Rattle.scop_core.specs.declared.affines.Affine.{Affine}
 use Rattle.scop_core.specs.declared.schedules.Schedule.{Schedule}
 use Rattle.dependence_systems.specs.declared.widths.Widths.{Widths}
-use Rattle.scop_core.specs.SolvedRows.{HasSizes}
+use Rattle.scop_core.specs.SolvedRows.{HasSizes, HasRelation}
 use Rattle.scop_core.specs.Held.{IsFormed}
 use Rattle.scop_core.specs.Printable.{IsContext, IsDomainPart}
 use Rattle.scop_core.specs.ReadBack.{IsSolvedSchedule, IsSolvedAccess}
@@ -33,6 +33,14 @@ pub record SchedulesFit (w : Widths) (parameters : ℕ) (source target : Schedul
 -- subscripts have a coefficient for each iterator and each parameter, and none for floors
 abbrev pub SubscriptsFit : ℕ → ℕ → List Affine → Type 0
 SubscriptsFit iterators parameters subscripts = All (HasSizes iterators 0 parameters) subscripts
+
+-- the context, two domain parts and two schedules fit together
+pub record GroundsFit (context source_part target_part : System) (source target : Schedule) : Type 0 where
+  pub is_context : IsContext context
+  pub source_domain : IsDomainPart source_part.shape.outputs context.shape.parameters source_part
+  pub target_domain : IsDomainPart target_part.shape.outputs context.shape.parameters target_part
+  pub source_relation : HasRelation source_part.shape.outputs context.shape.parameters source
+  pub target_relation : HasRelation target_part.shape.outputs context.shape.parameters target
 
 -- what a system is made of fits together
 pub record PairingFits (m : Pairing) : Type 0 where

@@ -27,6 +27,18 @@ pub record Pairing : Type 0 where
   pub source_schedule : Schedule
   pub target_schedule : Schedule
 
+-- these in order
+abbrev pub pairing : System → System → System → Access → Access → Schedule → Schedule → Pairing
+pairing context source_part target_part source_access target_access source target = record {
+  context = context;
+  source_part = source_part;
+  target_part = target_part;
+  source_access = source_access;
+  target_access = target_access;
+  source_schedule = source;
+  target_schedule = target;
+}
+
 -- the numbers of columns for two domain parts and two schedules, but for the parameters
 abbrev pub widths_for : System → System → Schedule → Schedule → Widths
 widths_for source_part target_part source target = record {

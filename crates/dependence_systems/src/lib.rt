@@ -2,6 +2,7 @@
 //! instances lies in one exactly where it conflicts.
 #![tactic(auto)]
 
+mod building;
 mod comparing;
 mod deps;
 pub mod laws;
