@@ -4,6 +4,7 @@ pub mod Differences
 pub mod EntryFound
 pub mod LevelCounts
 pub mod LevelTests
+pub mod NamedSides
 pub mod Members
 pub mod Pairs
 pub mod RowMeanings

@@ -127,7 +127,7 @@ can_meet_of : (a b : Access) → a.array ≡ b.array → length a.subscripts ≡
 can_meet_of a b e f = and_true _ _ ((Decides-int_eq a.array b.array).1 e) ((Decides-eqb (length a.subscripts) (length b.subscripts)).1 f)
 
 -- what an entry's system is made of, by what the entry names
-abbrev named : (context : System) (sides : List Side) (e : Dep) → IsEntry sides e → Pairing
+abbrev pub named : (context : System) (sides : List Side) (e : Dep) → IsEntry sides e → Pairing
 named context sides e h = record {
   context = context;
   source_part = h.source_domain;
@@ -138,7 +138,7 @@ named context sides e h = record {
   target_schedule = h.target.schedule;
 }
 
-is_named : (context : System) (sides : List Side) (e : Dep) (h : IsEntry sides e) → pairing_of context sides e ≡ named context sides e h
+pub is_named : (context : System) (sides : List Side) (e : Dep) (h : IsEntry sides e) → pairing_of context sides e ≡ named context sides e h
 is_named context sides e h =
     let P : Side → Side → Pairing = λ s t. record {
       context = context;
@@ -170,7 +170,7 @@ is_named context sides e h =
     one ∙ two
 
 -- it fits together, where all sides fit
-named_fits : (context : System) (sides : List Side) (e : Dep) (h : IsEntry sides e) → IsContext context → All (SideFits context.shape.parameters) sides
+pub named_fits : (context : System) (sides : List Side) (e : Dep) (h : IsEntry sides e) → IsContext context → All (SideFits context.shape.parameters) sides
     → PairingFits (named context sides e h)
 named_fits context sides e h is_context all =
     let N = context.shape.parameters in

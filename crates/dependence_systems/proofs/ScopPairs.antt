@@ -39,7 +39,7 @@ piece_schedule N old s k shaped piece = by (member old k) refl piece
     by None e h = absurd h
     by (Some original) e h = subst (λ i. IsSolvedSchedule i N original.schedule) h (all_member (IsShapedStatement N) old k original e shaped).schedule
 
-originals_fit : (N : ℕ) (old now : List Statement) (originals : List ℕ) → All (IsShapedStatement N) old → All (IsShapedStatement N) now → All IsFormedStatement now
+pub originals_fit : (N : ℕ) (old now : List Statement) (originals : List ℕ) → All (IsShapedStatement N) old → All (IsShapedStatement N) now → All IsFormedStatement now
     → ArePieces old now originals → All (SideFits N) (under_originals old now originals)
 originals_fit N old [] originals a b c h = All-nil (SideFits N)
 originals_fit N old (s ∷ now) [] a b c h = absurd h
@@ -56,9 +56,9 @@ own_fit N (s ∷ now) b c =
     (own_fit N now (All-tail (IsShapedStatement N) s now b) (All-tail IsFormedStatement s now c))
 
 -- sides are the statements, each under the schedule of its number
-record Matches (now : List Statement) (sides : List Side) (schedule : ℕ → Schedule) : Type 0 where
-  into : (k : ℕ) (s : Statement) → member now k ≡ Some s → member sides k ≡ Some (under s (schedule k))
-  back : (k : ℕ) (side : Side) → member sides k ≡ Some side → (s : Statement) × (member now k ≡ Some s) × (side ≡ under s (schedule k))
+pub record Matches (now : List Statement) (sides : List Side) (schedule : ℕ → Schedule) : Type 0 where
+  pub into : (k : ℕ) (s : Statement) → member now k ≡ Some s → member sides k ≡ Some (under s (schedule k))
+  pub back : (k : ℕ) (side : Side) → member sides k ≡ Some side → (s : Statement) × (member now k ≡ Some s) × (side ≡ under s (schedule k))
 
 same_value : {X : Type 0} {a b : X} → Some a ≡ Some b → a ≡ b
 same_value e = cc
@@ -81,7 +81,7 @@ originals_back old (t ∷ now) [] h j side e = absurd h
 originals_back old (t ∷ now) (k ∷ originals) h zero side e = (t, refl, sym (same_value e))
 originals_back old (t ∷ now) (k ∷ originals) h (suc j) side e = originals_back old now originals h.1 j side e
 
-originals_match : (old now : List Statement) (originals : List ℕ) → ArePieces old now originals
+pub originals_match : (old now : List Statement) (originals : List ℕ) → ArePieces old now originals
     → Matches now (under_originals old now originals) (λ k. schedule_in (member old (member_or 0 (member originals k))))
 originals_match old now originals h = record {
   into = λ k s e. into k s e;

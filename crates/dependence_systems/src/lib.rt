@@ -8,6 +8,7 @@ mod deps;
 pub mod laws;
 mod level_rows;
 mod level_tests;
+mod lookups;
 mod pieces;
 mod placing;
 mod widths;

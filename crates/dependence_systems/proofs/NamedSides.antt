@@ -1,0 +1,106 @@
+-- What an entry of the list of two SCoPs names is there, and its system can be built.
+use Rattle.std.proofs.Common.{◌≡◌, ℕ, zero, suc, ◌+◌, ◌≤◌, List, [], ◌∷◌, length, slice_get, All, Option, Some, None, IsSomeAnd, IsSome, is_some, refl, ap, sym, ◌∙◌, subst, arith}
+use Rattle.relation_core.specs.Systems.{System, HasLimits}
+use Rattle.scop_core.specs.declared.accesses.Access.{Access}
+use Rattle.scop_core.specs.declared.schedules.Schedule.{Schedule}
+use Rattle.scop_core.specs.declared.statements.Statement.{Statement}
+use Rattle.scop_core.specs.ScopData.{ScopData}
+use Rattle.scop_core.specs.Sequences.{In}
+use Rattle.scop_core.specs.KeptLimits.{StatementKeepsLimits, KeepsLimits}
+use Rattle.scop_core.specs.Printable.{IsDomainPart}
+use Rattle.scop_core.specs.Shapes.{IsShapedStatement}
+use Rattle.scop_core.specs.Validity.{IsValid}
+use Rattle.scop_core.proofs.KeptLimits.{keeps_limits}
+use Rattle.scop_core.proofs.ScopShapes.{scops_are_formed, scops_are_shaped}
+use Rattle.dependence_systems.specs.declared.deps.Dep.{Dep}
+use Rattle.dependence_systems.specs.Sides.{Side, member, schedule_in, under, under_originals, sides}
+use Rattle.dependence_systems.specs.Entries.{entries}
+use Rattle.dependence_systems.specs.Fits.{SideFits, PairingFits}
+use Rattle.dependence_systems.specs.Originals.{IsPiece, ArePieces, HasOriginals}
+use Rattle.dependence_systems.specs.Systems.{Pairing, pairing, pairing_of, member_or, no_side, no_part, no_access, system_shape}
+use Rattle.dependence_systems.specs.Lookups.{HasSide, IsReady}
+use Rattle.dependence_systems.proofs.EntryFound.{IsEntry, listed_entry}
+use Rattle.dependence_systems.proofs.Pairs.{all_member, named, is_named, named_fits}
+use Rattle.dependence_systems.proofs.ScopPairs.{Matches, originals_match, originals_fit}
+
+is_there : {X : Type 0} (found : Option X) (x : X) → found ≡ Some x → IsSome found
+is_there found x e = ap (λ z. is_some z) e
+
+-- the original of a piece
+piece_at : (old now : List Statement) (originals : List ℕ) → ArePieces old now originals → (j : ℕ) (s : Statement) → slice_get now j ≡ Some s
+    → IsSomeAnd (slice_get originals j) (λ k. IsPiece old s k)
+piece_at old [] originals h j s e = absurd (cc)
+piece_at old (t ∷ now) [] h j s e = absurd h
+piece_at old (t ∷ now) (k ∷ originals) h zero s e = subst (λ z. IsPiece old z k) (let same : t ≡ s = cc in same) h.0
+piece_at old (t ∷ now) (k ∷ originals) h (suc j) s e = piece_at old now originals h.1 j s e
+
+piece_member : (old now : List Statement) (originals : List ℕ) → ArePieces old now originals → (k : ℕ) (s : Statement) → member now k ≡ Some s
+    → IsSomeAnd (member originals k) (λ j. IsPiece old s j)
+piece_member old now originals h zero s e = absurd (cc)
+piece_member old now originals h (suc k) s e = piece_at old now originals h k s e
+
+piece_is_there : (old : List Statement) (s : Statement) (found : Option ℕ) → IsSomeAnd found (λ j. IsPiece old s j) → IsSomeAnd found (λ j. IsSome (member old j))
+piece_is_there old s None h = absurd h
+piece_is_there old s (Some j) h = by (member old j) h
+  where
+    by : (o : Option Statement) → IsSomeAnd o (λ original. length original.body.iterators ≡ length s.body.iterators) → IsSome o
+    by None g = absurd g
+    by (Some original) g = refl
+
+-- the side of a number, and its access and part, are in the SCoPs
+has_side : (old now : List Statement) (originals : List ℕ) → ArePieces old now originals → (k access part : ℕ) (side : Side) (a : Access) (p : System)
+    → member (under_originals old now originals) k ≡ Some side → member side.accesses access ≡ Some a → member side.domain part ≡ Some p → HasSide old now originals k access part
+has_side old now originals h k access part side a p es ea ep =
+    let s = (originals_match old now originals h).back k side es in
+    let accesses : IsSome (member s.0.accesses access) = is_there (member s.0.accesses access) a (sym (ap (λ u. member u.accesses access) s.2) ∙ ea) in
+    let parts : IsSome (member s.0.domain part) = is_there (member s.0.domain part) p (sym (ap (λ u. member u.domain part) s.2) ∙ ep) in record {
+      statement = subst (λ found. IsSomeAnd found (λ t. IsSome (member t.accesses access) × IsSome (member t.domain part))) (sym s.1) (accesses, parts);
+      original = piece_is_there old s.0 (member originals k) (piece_member old now originals h k s.0 s.1);
+    }
+
+pub has_source : (old now : ScopData) (originals : List ℕ) (e : Dep) → HasOriginals old now originals → In e (entries (sides old now originals))
+    → HasSide old.statements now.statements originals e.source e.source_access e.source_part
+has_source old now originals e has listed =
+    let i = listed_entry (sides old now originals) e listed in
+    has_side old.statements now.statements originals has.pieces e.source e.source_access e.source_part i.source i.first i.source_domain i.source_is i.first_is i.source_domain_is
+
+pub has_target : (old now : ScopData) (originals : List ℕ) (e : Dep) → HasOriginals old now originals → In e (entries (sides old now originals))
+    → HasSide old.statements now.statements originals e.target e.target_access e.target_part
+has_target old now originals e has listed =
+    let i = listed_entry (sides old now originals) e listed in
+    has_side old.statements now.statements originals has.pieces e.target e.target_access e.target_part i.target i.second i.target_domain i.target_is i.second_is i.target_domain_is
+
+-- what was found for one side
+pub record Found (old now : List Statement) (originals : List ℕ) (k access part : ℕ) (s original : Statement) (j : ℕ) (a : Access) (p : System) : Type 0 where
+  pub statement_is : member now k ≡ Some s
+  pub number_is : member originals k ≡ Some j
+  pub original_is : member old j ≡ Some original
+  pub access_is : member s.accesses access ≡ Some a
+  pub part_is : member s.domain part ≡ Some p
+
+-- the side is the statement under its original's schedule
+found_side : (old now : List Statement) (originals : List ℕ) → ArePieces old now originals → (k access part : ℕ) (s original : Statement) (j : ℕ) (a : Access) (p : System)
+    → Found old now originals k access part s original j a p → member (under_originals old now originals) k ≡ Some (under s original.schedule)
+found_side old now originals h k access part s original j a p f =
+    (originals_match old now originals h).into k s f.statement_is
+    ∙ ap (λ i. Some (under s (schedule_in (member old (member_or 0 i))))) f.number_is ∙ ap (λ o. Some (under s (schedule_in o))) f.original_is
+
+-- what was found for both sides is what the entry's system is made of
+pub pairing_found : (old now : ScopData) (originals : List ℕ) (e : Dep) → HasOriginals old now originals
+    → (s os t ot : Statement) (i j : ℕ) (a b : Access) (p q : System)
+    → Found old.statements now.statements originals e.source e.source_access e.source_part s os i a p
+    → Found old.statements now.statements originals e.target e.target_access e.target_part t ot j b q
+    → pairing_of now.context (sides old now originals) e ≡ pairing now.context p q a b os.schedule ot.schedule
+pairing_found old now originals e has s os t ot i j a b p q f g =
+    let P : Side → Side → Pairing = λ u v. pairing now.context (member_or no_part (member u.domain e.source_part)) (member_or no_part (member v.domain e.target_part))
+        (member_or no_access (member u.accesses e.source_access)) (member_or no_access (member v.accesses e.target_access)) u.schedule v.schedule in
+    let Q : Option System → Option System → Option Access → Option Access → Pairing = λ x y c d.
+        pairing now.context (member_or no_part x) (member_or no_part y) (member_or no_access c) (member_or no_access d) os.schedule ot.schedule in
+    let su = found_side old.statements now.statements originals has.pieces e.source e.source_access e.source_part s os i a p f in
+    let tv = found_side old.statements now.statements originals has.pieces e.target e.target_access e.target_part t ot j b q g in
+    let one : pairing_of now.context (sides old now originals) e ≡ P (under s os.schedule) (under t ot.schedule)
+    = ap (λ z. P (member_or no_side z) (member_or no_side (member (sides old now originals) e.target))) su ∙ ap (λ z. P (under s os.schedule) (member_or no_side z)) tv in
+    let y = member t.domain e.target_part in
+    let c = member s.accesses e.source_access in
+    let d = member t.accesses e.target_access in
+    one ∙ (ap (λ z. Q z y c d) f.part_is ∙ (ap (λ z. Q (Some p) z c d) g.part_is ∙ (ap (λ z. Q (Some p) (Some q) z d) f.access_is ∙ ap (λ z. Q (Some p) (Some q) (Some a) z) g.access_is)))
