@@ -1,5 +1,6 @@
 -- What an entry of the list of two SCoPs names is there, and its system can be built.
 use Rattle.std.proofs.Common.{◌≡◌, ℕ, zero, suc, ◌+◌, ◌≤◌, List, [], ◌∷◌, length, slice_get, All, Option, Some, None, IsSomeAnd, IsSome, is_some, refl, ap, sym, ◌∙◌, subst, arith}
+use Rattle.std.proofs.lemmas.List.Elements.{All-head, All-tail, All-cons, All-nil}
 use Rattle.relation_core.specs.Systems.{System, HasLimits}
 use Rattle.scop_core.specs.declared.accesses.Access.{Access}
 use Rattle.scop_core.specs.declared.schedules.Schedule.{Schedule}
@@ -93,9 +94,9 @@ pub pairing_found : (old now : ScopData) (originals : List ℕ) (e : Dep) → Ha
     → pairing_of now.context (sides old now originals) e ≡ pairing now.context p q a b os.schedule ot.schedule
 pairing_found old now originals e has s os t ot i j a b p q f g =
     let P : Side → Side → Pairing = λ u v. pairing now.context (member_or no_part (member u.domain e.source_part)) (member_or no_part (member v.domain e.target_part))
-        (member_or no_access (member u.accesses e.source_access)) (member_or no_access (member v.accesses e.target_access)) u.schedule v.schedule in
+    (member_or no_access (member u.accesses e.source_access)) (member_or no_access (member v.accesses e.target_access)) u.schedule v.schedule in
     let Q : Option System → Option System → Option Access → Option Access → Pairing = λ x y c d.
-        pairing now.context (member_or no_part x) (member_or no_part y) (member_or no_access c) (member_or no_access d) os.schedule ot.schedule in
+    pairing now.context (member_or no_part x) (member_or no_part y) (member_or no_access c) (member_or no_access d) os.schedule ot.schedule in
     let su = found_side old.statements now.statements originals has.pieces e.source e.source_access e.source_part s os i a p f in
     let tv = found_side old.statements now.statements originals has.pieces e.target e.target_access e.target_part t ot j b q g in
     let one : pairing_of now.context (sides old now originals) e ≡ P (under s os.schedule) (under t ot.schedule)
@@ -104,3 +105,106 @@ pairing_found old now originals e has s os t ot i j a b p q f g =
     let c = member s.accesses e.source_access in
     let d = member t.accesses e.target_access in
     one ∙ (ap (λ z. Q z y c d) f.part_is ∙ (ap (λ z. Q (Some p) z c d) g.part_is ∙ (ap (λ z. Q (Some p) (Some q) z d) f.access_is ∙ ap (λ z. Q (Some p) (Some q) (Some a) z) g.access_is)))
+
+-- sides of few columns
+record IsSmall (side : Side) : Type 0 where
+  iterators : side.iterators ≤ 12
+  locals : All (λ part. part.shape.locals ≤ 24) side.domain
+  floors : length side.schedule.floors ≤ 24
+
+few_floors : (old : List Statement) (j : ℕ) → All StatementKeepsLimits old → length (schedule_in (member old j)).floors ≤ 24
+few_floors old j all = by (member old j) refl
+  where
+    by : (found : Option Statement) → member old j ≡ found → length (schedule_in found).floors ≤ 24
+    by None e = omega arith
+    by (Some s) e = (all_member StatementKeepsLimits old j s e all).floors
+
+small_sides : (old now : List Statement) (originals : List ℕ) → All StatementKeepsLimits old → All StatementKeepsLimits now → All IsSmall (under_originals old now originals)
+small_sides old [] originals a b = All-nil IsSmall
+small_sides old (s ∷ now) [] a b = All-nil IsSmall
+small_sides old (s ∷ now) (k ∷ originals) a b =
+    let small = All-head StatementKeepsLimits s now b in
+    All-cons IsSmall (under s (schedule_in (member old k))) (under_originals old now originals)
+    (record { iterators = small.iterators; locals = small.locals; floors = few_floors old k a })
+    (small_sides old now originals a (All-tail StatementKeepsLimits s now b))
+
+named_limits : (context : System) (sides : List Side) (e : Dep) (h : IsEntry sides e) → context.shape.parameters ≤ 16 → All (SideFits context.shape.parameters) sides → All IsSmall sides
+    → HasLimits (system_shape (named context sides e h))
+named_limits context sides e h few fits small =
+    let N = context.shape.parameters in
+    let s = all_member IsSmall sides e.source h.source h.source_is small in
+    let t = all_member IsSmall sides e.target h.target h.target_is small in
+    let p = all_member (IsDomainPart h.source.iterators N) h.source.domain e.source_part h.source_domain h.source_domain_is (all_member (SideFits N) sides e.source h.source h.source_is fits).domain in
+    let q = all_member (IsDomainPart h.target.iterators N) h.target.domain e.target_part h.target_domain h.target_domain_is (all_member (SideFits N) sides e.target h.target h.target_is fits).domain in
+    let l : h.source_domain.shape.locals ≤ 24 = all_member (λ part. part.shape.locals ≤ 24) h.source.domain e.source_part h.source_domain h.source_domain_is s.locals in
+    let k : h.target_domain.shape.locals ≤ 24 = all_member (λ part. part.shape.locals ≤ 24) h.target.domain e.target_part h.target_domain h.target_domain_is t.locals in record {
+      outputs = omega (arith, p.outputs, s.iterators);
+      inputs = omega (arith, q.outputs, t.iterators);
+      locals = omega (arith, l, k, s.floors, t.floors);
+      parameters = omega (arith, few);
+    }
+
+pub is_ready : (old now : ScopData) (originals : List ℕ) (e : Dep) → IsValid old → IsValid now → HasOriginals old now originals → In e (entries (sides old now originals))
+    → IsReady (pairing_of now.context (sides old now originals) e) e.level
+is_ready old now originals e valid_old valid_now has listed =
+    let i = listed_entry (sides old now originals) e listed in
+    let N = now.context.shape.parameters in
+    let old_shaped : All (IsShapedStatement N) old.statements = subst (λ c. All (IsShapedStatement c.shape.parameters) old.statements) has.context (scops_are_shaped old valid_old).statements in
+    let fits = originals_fit N old.statements now.statements originals old_shaped (scops_are_shaped now valid_now).statements (scops_are_formed now valid_now).statements has.pieces in
+    let small = small_sides old.statements now.statements originals (keeps_limits old valid_old).each (keeps_limits now valid_now).each in
+    let ready : IsReady (named now.context (sides old now originals) e i) e.level = record {
+      limits = named_limits now.context (sides old now originals) e i (keeps_limits now valid_now).parameters fits small;
+      fits = named_fits now.context (sides old now originals) e i (scops_are_shaped now valid_now).context fits;
+      is_level = i.level;
+    } in
+    subst (λ m. IsReady m e.level) (sym (is_named now.context (sides old now originals) e i)) ready
+
+-- for what was found
+pub found_ready : (old now : ScopData) (originals : List ℕ) (e : Dep) → IsValid old → IsValid now → HasOriginals old now originals → In e (entries (sides old now originals))
+    → (m : Pairing) → pairing_of now.context (sides old now originals) e ≡ m → IsReady m e.level
+found_ready old now originals e valid_old valid_now has listed m same = subst (λ z. IsReady z e.level) same (is_ready old now originals e valid_old valid_now has listed)
+
+-- each look-up finds something
+and_some : {X : Type 0} (P : X → Type 0) (found : Option X) (x : X) → found ≡ Some x → IsSomeAnd found P → P x
+and_some P found x e h = subst (λ z. IsSomeAnd z P) e h
+
+some_of : {X : Type 0} (P : X → Type 0) (found : Option X) → IsSomeAnd found P → IsSome found
+some_of P None h = absurd h
+some_of P (Some x) h = refl
+
+pub statement_there : (old now : List Statement) (originals : List ℕ) (k access part : ℕ) (xs : List Statement) → HasSide old now originals k access part → xs ≡ now → IsSome (member xs k)
+statement_there old now originals k access part xs h e =
+    subst (λ z. IsSome (member z k)) (sym e) (some_of (λ s. IsSome (member s.accesses access) × IsSome (member s.domain part)) (member now k) h.statement)
+
+pub number_there : (old now : List Statement) (originals : List ℕ) (k access part : ℕ) → HasSide old now originals k access part → IsSome (member originals k)
+number_there old now originals k access part h = some_of (λ j. IsSome (member old j)) (member originals k) h.original
+
+pub original_there : (old now : List Statement) (originals : List ℕ) (k access part j : ℕ) (xs : List Statement) → HasSide old now originals k access part → xs ≡ old
+    → member originals k ≡ Some j → IsSome (member xs j)
+original_there old now originals k access part j xs h e n =
+    subst (λ z. IsSome (member z j)) (sym e) (and_some (λ i. IsSome (member old i)) (member originals k) j n h.original)
+
+inside : (old now : List Statement) (originals : List ℕ) (k access part : ℕ) (xs : List Statement) (s : Statement) → HasSide old now originals k access part → xs ≡ now
+    → member xs k ≡ Some s → IsSome (member s.accesses access) × IsSome (member s.domain part)
+inside old now originals k access part xs s h e n =
+    and_some (λ t. IsSome (member t.accesses access) × IsSome (member t.domain part)) (member now k) s (ap (λ z. member z k) (sym e) ∙ n) h.statement
+
+pub access_there : (old now : List Statement) (originals : List ℕ) (k access part : ℕ) (xs : List Statement) (s : Statement) (ys : List Access) → HasSide old now originals k access part
+    → xs ≡ now → member xs k ≡ Some s → ys ≡ s.accesses → IsSome (member ys access)
+access_there old now originals k access part xs s ys h e n y = subst (λ z. IsSome (member z access)) (sym y) (inside old now originals k access part xs s h e n).0
+
+pub part_there : (old now : List Statement) (originals : List ℕ) (k access part : ℕ) (xs : List Statement) (s : Statement) (ys : List System) → HasSide old now originals k access part
+    → xs ≡ now → member xs k ≡ Some s → ys ≡ s.domain → IsSome (member ys part)
+part_there old now originals k access part xs s ys h e n y = subst (λ z. IsSome (member z part)) (sym y) (inside old now originals k access part xs s h e n).1
+
+-- what the look-ups found
+pub found_by : (old now : List Statement) (originals : List ℕ) (k access part j : ℕ) (xs zs : List Statement) (s original : Statement) (ys : List Access) (a : Access) (ps : List System) (p : System)
+    → xs ≡ now → member xs k ≡ Some s → member originals k ≡ Some j → zs ≡ old → member zs j ≡ Some original → ys ≡ s.accesses → member ys access ≡ Some a → ps ≡ s.domain → member ps part ≡ Some p
+    → Found old now originals k access part s original j a p
+found_by old now originals k access part j xs zs s original ys a ps p ex s_is j_is ez o_is ey a_is ep p_is = record {
+  statement_is = ap (λ z. member z k) (sym ex) ∙ s_is;
+  number_is = j_is;
+  original_is = ap (λ z. member z j) (sym ez) ∙ o_is;
+  access_is = ap (λ z. member z access) (sym ey) ∙ a_is;
+  part_is = ap (λ z. member z part) (sym ep) ∙ p_is;
+}

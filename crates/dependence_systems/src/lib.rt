@@ -11,6 +11,8 @@ mod level_tests;
 mod lookups;
 mod pieces;
 mod placing;
+mod systems;
 mod widths;
 
 pub use deps::{Dep, DepKind};
+pub use systems::system;

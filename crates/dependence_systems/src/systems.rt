@@ -1,0 +1,55 @@
+//! The system of an entry of the list of two SCoPs.
+
+ghost use Rattle.std.specs.Prelude.{◌≡◌, ◌≤◌, ◌<◌, ◌^◌, Some, OnOk, IfOk, IfErr};
+ghost use Rattle.scop_core.specs.Sequences.{In};
+ghost use Rattle.dependence_systems.specs.Entries.{entries};
+ghost use Rattle.dependence_systems.specs.Lookups.{HasSide};
+ghost use Rattle.dependence_systems.specs.Originals.{HasOriginals};
+ghost use Rattle.dependence_systems.specs.Sides.{member, sides};
+ghost use Rattle.dependence_systems.specs.Systems.{system_of, summand_weight};
+
+use crate::building::system_between;
+use crate::deps::Dep;
+use crate::lookups::{numbered, original_of};
+use relation_core::Part;
+use row_core::RowFail;
+use scop_core::{Pieces, Scop};
+use std::alloc::Global;
+
+/// The system of an entry of the list: its rows are those of the context, of both domain parts, of the
+/// floors of both schedules, of the subscripts, and of the level. It needs an original in `old` for
+/// each statement of `now`, by `pieces`, and an entry of their list. Overflow comes exactly where an
+/// entry of these rows has summands whose absolute values sum above 2^127 - 1.
+pub fn system(
+    alloc: Global,
+    old: &Scop,
+    now: &Scop,
+    pieces: &Pieces,
+    dep: &Dep,
+) -> Result<Part, RowFail>
+    requires originals { HasOriginals old.now now.now pieces.now }
+    requires listed { In dep.now (entries (sides old.now now.now pieces.now)) }
+    ensures part { IfOk result (λ part. part ≡ system_of now.now.context (sides old.now now.now pieces.now) dep.now) }
+    ensures light { OnOk result (summand_weight now.now.context (sides old.now now.now pieces.now) dep.now < 2 ^ 127) }
+    ensures heavy { IfErr result (λ fail. fail ≡ RowFail.Overflow → 2 ^ 127 ≤ summand_weight now.now.context (sides old.now now.now pieces.now) dep.now) }
+{
+    let source = numbered(now.statements(), dep.source);
+    let target = numbered(now.statements(), dep.target);
+    let source_old = numbered(old.statements(), original_of(pieces, dep.source));
+    let target_old = numbered(old.statements(), original_of(pieces, dep.target));
+    let source_part = numbered(source.domain.parts(), dep.source_part);
+    let target_part = numbered(target.domain.parts(), dep.target_part);
+    let source_access = numbered(source.accesses.as_slice(), dep.source_access);
+    let target_access = numbered(target.accesses.as_slice(), dep.target_access);
+    system_between(
+        alloc,
+        now.context(),
+        source_part,
+        target_part,
+        source_access,
+        target_access,
+        &source_old.schedule,
+        &target_old.schedule,
+        dep.level as usize,
+    )
+}
