@@ -1,2 +1,7 @@
 mod Samples
 mod Checks
+pub mod LevelLists
+pub mod LeafLoops
+pub mod SplitConditions
+pub mod Clamps
+pub mod Joins

@@ -5,7 +5,8 @@ use Rattle.scop_core.specs.declared.statements.Statement.{Statement}
 use Rattle.scop_core.specs.ScopData.{ScopData}
 use Rattle.clay_script.specs.declared.commands.Command.{Command}
 use Rattle.clay_commands.specs.declared.edited.Edited.{Edited}
-use Rattle.clay_commands.specs.Drafts.{Leaf, Draft, drafted, drafts_after}
+use Rattle.clay_commands.specs.declared.leaves.Leaf.{Leaf}
+use Rattle.clay_commands.specs.Drafts.{Draft, drafted, drafts_after}
 use Rattle.clay_commands.specs.Refusals.{first_refusal, is_formed}
 
 -- the statement of a leaf, with the leaf's vector and without extensions

@@ -1,5 +1,5 @@
 -- The arguments of a command, which are coefficients, as the numbers that they stand for.
-use Rattle.std.specs.Prelude.{ℤ, pos, negsuc, ℕ, ◌-◌, Bool, true, false, if◌then◌else◌, List, [], ◌∷◌, map}
+use Rattle.std.specs.Prelude.{ℤ, pos, negsuc, ℕ, ◌-◌, ◌^◌, nat_lt, ◌&&◌, Bool, true, false, if◌then◌else◌, List, [], ◌∷◌, map}
 use Rattle.clay_script.specs.declared.commands.Command.{Command}
 use Rattle.clay_script.specs.Commands.{prefix_of}
 
@@ -25,3 +25,13 @@ order_in order = if are_natural order then map natural order else []
 -- the place, from 0, of level k, which is counted from 1
 abbrev pub place : ℤ → ℕ
 place k = natural k - 1
+
+-- a number fits 32 bits, as betas do
+abbrev pub fits : ℤ → Bool
+fits (pos n) = nat_lt n (2 ^ 32)
+fits (negsuc n) = false
+
+-- all numbers do
+abbrev pub all_fit : List ℤ → Bool
+all_fit [] = true
+all_fit (z ∷ zs) = fits z && all_fit zs

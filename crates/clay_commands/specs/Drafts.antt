@@ -14,14 +14,10 @@ use Rattle.scop_core.specs.SolvedRows.{zeros}
 use Rattle.scop_core.specs.AffineSums.{plus_multiple, moved, negative, widened, last_floor}
 use Rattle.clay_script.specs.declared.commands.Command.{Command}
 use Rattle.clay_script.specs.declared.commands.Command.TheVariants.{Fission, Fuse, Reorder, Interchange, Skew, Shift, Reverse, Stripmine, Tile, Iss}
+use Rattle.clay_commands.specs.declared.leaves.Leaf.{Leaf}
 use Rattle.clay_commands.specs.Arguments.{natural, prefix_in, order_in, place}
 
--- a statement, its dense beta vector in place of its own betas, and the number of the statement that it comes from
-pub record Leaf : Type 0 where
-  pub beta : List ℕ
-  pub statement : Statement
-  pub original : ℕ
-
+-- leaves in the statements' order
 abbrev pub Draft : Type 0
 Draft = List Leaf
 
@@ -38,6 +34,10 @@ leaves_from k (v ∷ V) (s ∷ statements) = record { beta = v; statement = s; o
 -- the statements of a SCoP, with their vectors numbered densely
 abbrev pub drafted : ScopData → Draft
 drafted S = leaves_from 1 (dense_of (betas_in S.statements)) S.statements
+
+-- a leaf with another vector
+abbrev pub with_beta : List ℕ → Leaf → Leaf
+with_beta v leaf = record leaf { beta = v }
 
 -- a vector begins with P
 abbrev pub is_under : List ℕ → List ℕ → Bool

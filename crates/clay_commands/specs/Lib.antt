@@ -3,4 +3,5 @@ pub mod Arguments
 pub mod Drafts
 pub mod Spots
 pub mod Refusals
+pub mod Steps
 pub mod Afters

@@ -6,7 +6,6 @@ use Rattle.suite_base.specs.declared.refusals.Refusal.{Refusal}
 use Rattle.suite_base.specs.declared.refusals.Refusal.TheVariants as refusal
 use Rattle.suite_base.specs.declared.refusals.Which.TheVariants.{Statements, Levels, Locals, Rows}
 use Rattle.suite_base.specs.declared.refusals.Where.TheVariants as count
-use Rattle.row_core.specs.Rows.{combined_weight, pair_weight}
 use Rattle.beta_tree.specs.declared.refusals.BetaFail.{BetaFail}
 use Rattle.beta_tree.specs.declared.refusals.BetaFail.TheVariants as beta
 use Rattle.beta_tree.specs.Vectors.{no_statement, is_leaf}
@@ -15,12 +14,14 @@ use Rattle.relation_core.specs.Systems.{System}
 use Rattle.scop_core.specs.declared.affines.Affine.{Affine}
 use Rattle.scop_core.specs.declared.schedules.Schedule.{Schedule}
 use Rattle.scop_core.specs.declared.statements.Statement.{Statement}
+use Rattle.scop_core.specs.AffineSums.{sum_weight, move_weight}
 use Rattle.scop_core.specs.Assembly.{or_else}
 use Rattle.clay_script.specs.declared.commands.Command.{Command}
 use Rattle.clay_script.specs.declared.commands.Command.TheVariants.{Fission, Fuse, Reorder, Interchange, Skew, Shift, Reverse, Stripmine, Tile, Iss}
 use Rattle.clay_script.specs.Commands.{prefix_of}
 use Rattle.clay_commands.specs.Arguments.{natural, are_natural, prefix_in, order_in, place}
-use Rattle.clay_commands.specs.Drafts.{Leaf, Draft, betas_of, is_under, form_at, draft_after}
+use Rattle.clay_commands.specs.declared.leaves.Leaf.{Leaf}
+use Rattle.clay_commands.specs.Drafts.{Draft, betas_of, is_under, form_at, draft_after}
 
 -- every statement under P passes a test
 abbrev pub all_under : List ℕ → (Statement → Bool) → Draft → Bool
@@ -95,16 +96,6 @@ limit_of i (Iss p xs ns c) D =
     if nat_le 1024 (length D) then Some (refusal.Limit Statements i)
     else (if not (all_under (map natural p) (λ s. not (has_full_part s)) D) then Some (refusal.Limit Rows i) else None)
 limit_of i other D = None
-
--- the greatest weight of a column of a + q b
-abbrev pub sum_weight : Affine → ℤ → Affine → ℕ
-sum_weight a q b =
-    max (combined_weight (pos 1) a.iterators q b.iterators) (max (combined_weight (pos 1) a.floors q b.floors)
-    (max (combined_weight (pos 1) a.parameters q b.parameters) (pair_weight (pos 1) a.constant q b.constant)))
-
--- the greatest weight of a column of a form and what it is moved by
-abbrev pub move_weight : Affine → List ℤ → ℤ → ℕ
-move_weight form v c = max (combined_weight (pos 1) form.parameters (pos 1) v) (pair_weight (pos 1) form.constant (pos 1) c)
 
 -- the weight of the constant in the rows of a floor of a form by s
 abbrev pub floor_weight : Affine → ℤ → ℕ

@@ -1,6 +1,14 @@
 //! The ten commands that edit the schedule of a SCoP.
 #![tactic(auto)]
 
+mod arguments;
+mod changes;
+mod conditions;
+mod edit_fails;
 mod edited;
+mod form_edits;
+mod leaves;
+mod splits;
+mod vector_steps;
 
 pub use edited::Edited;

@@ -6,6 +6,7 @@ ghost use Rattle.scop_core.specs.AffineSums.{HaveOneSize, plus_multiple, moved, 
 ghost use Rattle.scop_core.specs.SolvedRows.{zeros};
 
 use crate::affines::Affine;
+use crate::copies::copied_affine;
 use crate::row_builders::push_zeros;
 use row_core::{Coeff, DenseRow, RowFail, Sum, add_scaled, negated};
 use std::alloc::Global;
@@ -66,6 +67,13 @@ fn copied_row(alloc: Global, row: &DenseRow) -> Result<DenseRow, RowFail>
 }
 
 impl Affine {
+    /// An equal value.
+    pub fn copy(&self, alloc: Global) -> Result<Affine, NoMemory>
+        ensures { IfOk result (λ value. value ≡ self.now) }
+    {
+        copied_affine(alloc, self)
+    }
+
     /// The value `self + q other`, of which both have as many coefficients of each sort. `Overflow`
     /// exactly where the absolute values of the two products sum above 2^127 - 1 in some column.
     pub fn plus_multiple(&self, alloc: Global, q: Coeff, other: &Affine) -> Result<Affine, RowFail>

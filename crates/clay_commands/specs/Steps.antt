@@ -1,0 +1,88 @@
+-- What the edits of leaves ask and answer, statement by statement.
+use Rattle.std.specs.Prelude.{◌≡◌, ◌≤◌, ◌^◌, ℤ, pos, int_le, ℕ, Bool, true, false, if◌then◌else◌, Option, None, List, [], ◌∷◌, length, map}
+use Rattle.suite_base.specs.declared.refusals.Refusal.{Refusal}
+use Rattle.suite_base.specs.declared.refusals.Refusal.TheVariants as refusal
+use Rattle.suite_base.specs.declared.refusals.Where.TheVariants as count
+use Rattle.suite_base.specs.declared.refusals.Fail.{Fail}
+use Rattle.suite_base.specs.declared.refusals.Fail.TheVariants as fail
+use Rattle.scop_core.specs.declared.affines.Affine.{Affine}
+use Rattle.scop_core.specs.declared.statements.Statement.{Statement}
+use Rattle.scop_core.specs.AffineSums.{HaveOneSize}
+use Rattle.scop_core.specs.Assembly.{or_else}
+use Rattle.beta_tree.specs.declared.refusals.BetaFail.{BetaFail}
+use Rattle.beta_tree.specs.declared.refusals.BetaFail.TheVariants as beta
+use Rattle.clay_script.specs.declared.commands.Command.{Command}
+use Rattle.clay_script.specs.declared.commands.Command.TheVariants.{Fission, Fuse, Reorder, Interchange, Skew, Shift, Reverse, Stripmine, Tile, Iss}
+use Rattle.clay_commands.specs.declared.leaves.Leaf.{Leaf}
+use Rattle.clay_commands.specs.declared.edit_fails.EditFail.{EditFail}
+use Rattle.clay_commands.specs.declared.edit_fails.EditFail.TheVariants.{Memory, Heavy}
+use Rattle.clay_commands.specs.Arguments.{natural, place}
+use Rattle.clay_commands.specs.Drafts.{Draft, is_under, form_at, forms_after, scheduled, with_beta}
+use Rattle.clay_commands.specs.Refusals.{has_level, condition_under, limit_of, overflow_of}
+
+-- the forms of level k
+abbrev pub level_form : ℤ → Statement → Affine
+level_form k s = form_at s.schedule.levels (place k)
+
+-- the levels that a command names are there, and what it sums has one size
+abbrev pub IsChangeable : Command → Statement → Type 0
+IsChangeable (Interchange p k l) s = (has_level k s ≡ true) × (has_level l s ≡ true)
+IsChangeable (Skew p k l f) s = (has_level k s ≡ true) × (has_level l s ≡ true) × HaveOneSize (level_form k s) (level_form l s)
+IsChangeable (Shift p k v c) s = (has_level k s ≡ true) × (length (level_form k s).parameters ≡ length v)
+IsChangeable (Reverse p k) s = has_level k s ≡ true
+IsChangeable (Stripmine p k size) s = (has_level k s ≡ true) × (int_le (pos 1) size ≡ true)
+IsChangeable (Tile p k size t) s = (has_level k s ≡ true) × (int_le (pos 1) size ≡ true) × (int_le (pos 1) t ≡ true) × (int_le t k ≡ true)
+IsChangeable other s = ⊥
+
+-- every statement under P is such
+abbrev pub AllUnder : List ℕ → (Statement → Type 0) → Draft → Type 0
+AllUnder P Holds [] = Unit {0}
+AllUnder P Holds (leaf ∷ D) = ((is_under P leaf.beta ≡ true) → Holds leaf.statement) × AllUnder P Holds D
+
+-- a leaf whose statement is changed where it is under P
+abbrev pub changed : Command → List ℕ → Leaf → Leaf
+changed command P leaf =
+    if is_under P leaf.beta then record leaf { statement = scheduled leaf.statement (forms_after command leaf.statement.schedule) } else leaf
+
+-- what counts of a leaf, where it is under P
+abbrev pub counted : List ℕ → (Statement → ℕ) → Leaf → ℕ
+counted P number leaf = if is_under P leaf.beta then number leaf.statement else 0
+
+-- an edit was given up for want of memory, or since a sum of such a weight passes the greatest coefficient
+abbrev pub IsHeavy : ℕ → EditFail → Type 0
+IsHeavy weight Memory = Unit {0}
+IsHeavy weight Heavy = 2 ^ 127 ≤ weight
+
+-- the leaves with these vectors in place of their own
+abbrev pub joined : List (List ℕ) → Draft → Draft
+joined [] D = []
+joined (v ∷ V) [] = []
+joined (v ∷ V) (leaf ∷ D) = with_beta v leaf ∷ joined V D
+
+-- the refusal of command number i where P, its prefix, has statements
+abbrev pub refusal_under : ℕ → ℕ → Command → List ℕ → Draft → Option Refusal
+refusal_under parameters i command P D = or_else (condition_under parameters i command P D) (or_else (limit_of i command D) (overflow_of i command D))
+
+-- the command edits forms or domains, and not only vectors
+abbrev pub IsLevelCommand : Command → Type 0
+IsLevelCommand (Fission p c) = ⊥
+IsLevelCommand (Fuse p) = ⊥
+IsLevelCommand (Reorder p order) = ⊥
+IsLevelCommand other = Unit {0}
+
+-- the command is iss of P
+abbrev pub IsSplit : Command → List ℕ → Type 0
+IsSplit (Iss p xs ns c) P = P ≡ map natural p
+IsSplit other P = ⊥
+
+-- the failure of command number i by an operation on the vectors
+abbrev pub fail_of : ℕ → BetaFail → Fail
+fail_of i beta.Memory = fail.Memory
+fail_of i beta.NoBeta = fail.Refused (refusal.NoBeta i)
+fail_of i beta.NotALoop = fail.Refused (refusal.NotALoop i)
+fail_of i beta.BadArgument = fail.Refused (refusal.BadArgument i)
+
+-- the failure of command number i by an edit of forms
+abbrev pub edit_fail_of : ℕ → EditFail → Fail
+edit_fail_of i Memory = fail.Memory
+edit_fail_of i Heavy = fail.Refused (refusal.Overflow count.Command i)
