@@ -5,3 +5,6 @@ pub mod LeafLoops
 pub mod SplitConditions
 pub mod Clamps
 pub mod Joins
+pub mod Changeables
+pub mod DraftMaps
+pub mod Cuts

@@ -5,3 +5,4 @@ pub mod Spots
 pub mod Refusals
 pub mod Steps
 pub mod Afters
+pub mod Soundness

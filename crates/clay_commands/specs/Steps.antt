@@ -70,6 +70,28 @@ IsLevelCommand (Fuse p) = ⊥
 IsLevelCommand (Reorder p order) = ⊥
 IsLevelCommand other = Unit {0}
 
+-- the command changes floors or levels
+abbrev pub IsFormCommand : Command → Type 0
+IsFormCommand (Fission p c) = ⊥
+IsFormCommand (Fuse p) = ⊥
+IsFormCommand (Reorder p order) = ⊥
+IsFormCommand (Iss p xs ns c) = ⊥
+IsFormCommand other = Unit {0}
+
+-- the command changes levels and nothing else
+abbrev pub IsPlainCommand : Command → Type 0
+IsPlainCommand (Interchange p k l) = Unit {0}
+IsPlainCommand (Skew p k l f) = Unit {0}
+IsPlainCommand (Shift p k v c) = Unit {0}
+IsPlainCommand (Reverse p k) = Unit {0}
+IsPlainCommand other = ⊥
+
+-- the command cuts level k into strips
+abbrev pub IsCut : Command → ℤ → Type 0
+IsCut (Stripmine p j size) k = j ≡ k
+IsCut (Tile p j size t) k = j ≡ k
+IsCut other k = ⊥
+
 -- the command is iss of P
 abbrev pub IsSplit : Command → List ℕ → Type 0
 IsSplit (Iss p xs ns c) P = P ≡ map natural p

@@ -9,6 +9,7 @@ mod edited;
 mod form_edits;
 mod leaves;
 mod splits;
+mod steps;
 mod vector_steps;
 
 pub use edited::Edited;

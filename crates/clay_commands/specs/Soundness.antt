@@ -1,0 +1,28 @@
+-- What holds of the leaves between two commands of a script that is not refused: closed, they are statements of a SCoP.
+use Rattle.std.specs.Prelude.{ℕ, ◌≡◌, ◌≤◌, true, None, List, length, All}
+use Rattle.scop_core.specs.Printable.{is_body}
+use Rattle.scop_core.specs.Shapes.{IsShapedStatement}
+use Rattle.scop_core.specs.KeptLimits.{StatementKeepsLimits}
+use Rattle.clay_script.specs.declared.commands.Command.{Command}
+use Rattle.clay_commands.specs.declared.leaves.Leaf.{Leaf}
+use Rattle.clay_commands.specs.Arguments.{prefix_in}
+use Rattle.clay_commands.specs.Drafts.{Draft, betas_of, draft_after}
+use Rattle.clay_commands.specs.Steps.{refusal_under}
+use Rattle.clay_commands.specs.Afters.{closed_leaf}
+
+-- the statement of a leaf, with the leaf's vector, has its shapes over so many parameters, keeps the limits and has a body
+pub record IsSoundLeaf (parameters : ℕ) (leaf : Leaf) : Type 0 where
+  pub shape : IsShapedStatement parameters (closed_leaf leaf)
+  pub limits : StatementKeepsLimits (closed_leaf leaf)
+  pub body : is_body leaf.statement.body ≡ true
+
+-- each leaf is such, and there are no more than statements of a SCoP
+pub record IsSound (parameters : ℕ) (D : Draft) : Type 0 where
+  pub leaves : All (IsSoundLeaf parameters) D
+  pub few : length D ≤ 1024
+
+-- command number i, whose prefix has statements, is not refused, and makes of the leaves D the leaves E, which have the vectors V
+pub record IsStep (parameters i : ℕ) (command : Command) (D E : Draft) (V : List (List ℕ)) : Type 0 where
+  pub unrefused : refusal_under parameters i command (prefix_in command) D ≡ None
+  pub draft : E ≡ draft_after command D
+  pub vectors : V ≡ betas_of E
