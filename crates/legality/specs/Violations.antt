@@ -1,0 +1,63 @@
+-- The violation systems of an edited SCoP: each holds the pairs of instances that a dependence orders and the new schedules reverse.
+use Rattle.std.specs.Prelude.{ℕ, List, map, max, ◌++◌}
+use Rattle.std.specs.List.{flat_map}
+use Rattle.relation_core.specs.Systems.{System}
+use Rattle.elim_core.specs.Peaks.{Peak, peak}
+use Rattle.scop_core.specs.ScopData.{ScopData}
+use Rattle.scop_core.specs.LevelOrder.{levels_between}
+use Rattle.dependence_systems.specs.declared.deps.Dep.{Dep}
+use Rattle.dependence_systems.specs.Sides.{member, schedule_in, sides, own_sides}
+use Rattle.dependence_systems.specs.Entries.{entries}
+use Rattle.dependence_systems.specs.Systems.{Pairing, pairing_of, system_of, summand_weight}
+use Rattle.legality.specs.Mixed.{mixed_sides}
+use Rattle.legality.specs.Reversals.{reversed_rows, reversed_weight}
+
+-- an edited SCoP: the old one, the new one, and the number in the old one of the original of each new statement
+pub record Edit : Type 0 where
+  pub old : ScopData
+  pub now : ScopData
+  pub of : List ℕ
+
+-- the dependences of the new statements in the order of their originals
+abbrev pub dependences : Edit → List Dep
+dependences E = entries (sides E.old E.now E.of)
+
+-- one violation: a dependence, and the level at which the new schedules reverse it
+pub record Violation : Type 0 where
+  pub entry : Dep
+  pub level : ℕ
+
+-- the levels at which the new schedules can put the target of a dependence before its source
+abbrev pub new_levels : Edit → Dep → List ℕ
+new_levels E e =
+    levels_between (schedule_in (member E.now.statements e.target)).betas (schedule_in (member E.now.statements e.source)).betas
+
+-- the violations of a dependence, by level; it may have none
+abbrev pub violations_of : Edit → Dep → List Violation
+violations_of E e = map (λ level. record { entry = e; level = level }) (new_levels E e)
+
+-- all violations, by dependence; they are numbered from 1 in this order
+abbrev pub violations : Edit → List Violation
+violations E = flat_map (λ e. violations_of E e) (dependences E)
+
+-- what the rows of the new levels are made of
+abbrev pub renewed : Edit → Dep → Pairing
+renewed E e = pairing_of E.now.context (own_sides E.now) e
+
+-- the rows that the systems of all violations of a dependence share: its own, with the floors of the new schedules
+abbrev pub shared_system : Edit → Dep → System
+shared_system E e = system_of E.now.context (mixed_sides E.old E.now E.of) e
+
+-- the system of a violation
+abbrev pub violation_system : Edit → Violation → System
+violation_system E v =
+    let shared = shared_system E v.entry in record { shape = shared.shape; rows = shared.rows ++ reversed_rows (renewed E v.entry) v.level }
+
+-- the greatest sum of the absolute values of an entry's summands in it
+abbrev pub violation_weight : Edit → Violation → ℕ
+violation_weight E v =
+    max (summand_weight E.now.context (mixed_sides E.old E.now E.of) v.entry) (reversed_weight (renewed E v.entry) v.level)
+
+-- the greatest number that the stated elimination of the system meets, sums of summands included, and the most rows
+abbrev pub violation_peak : Edit → Violation → Peak
+violation_peak E v = let stated = peak (violation_system E v) in record { weight = max (violation_weight E v) stated.weight; rows = stated.rows }

@@ -1,0 +1,6 @@
+//! Whether a script may be applied to a SCoP: exactly where no pair of instances that touch can change its order.
+#![tactic(auto)]
+
+mod legal;
+
+pub use legal::Legal;
