@@ -33,14 +33,14 @@ length_combined i (x ∷ a) j [] e = absurd (omega (arith, e))
 length_combined i (x ∷ a) j (y ∷ b) e = let rest : length (combined i a j b) ≡ length a = length_combined i a j b (omega (arith, e)) in omega arith
 
 -- coefficients of floors that are as long as the columns of floors, and their values at the floors
-record Floors (w : Widths) (i j : ℤ) (f g : List ℤ) (a b : Affine) (u v r s : List ℤ) : Type 0 where
-  source_is : length f ≡ w.source_floors
-  target_is : length g ≡ w.target_floors
-  source_value : dot f u ≡ i *ℤ dot a.floors r
-  target_value : dot g v ≡ j *ℤ dot b.floors s
+pub record Floors (w : Widths) (i j : ℤ) (f g : List ℤ) (a b : Affine) (u v r s : List ℤ) : Type 0 where
+  pub source_is : length f ≡ w.source_floors
+  pub target_is : length g ≡ w.target_floors
+  pub source_value : dot f u ≡ i *ℤ dot a.floors r
+  pub target_value : dot g v ≡ j *ℤ dot b.floors s
 
 -- the value of i a + j b + k, where the floors have the values that stand in r and s
-summed_value : (w : Widths) (i j k : ℤ) (f g : List ℤ) (a b : Affine) (x y l m u v n r s : List ℤ) → HasWidths w x y l m u v
+pub summed_value : (w : Widths) (i j k : ℤ) (f g : List ℤ) (a b : Affine) (x y l m u v n r s : List ℤ) → HasWidths w x y l m u v
     → length a.iterators ≡ w.source → length b.iterators ≡ w.target → length a.parameters ≡ length n → length b.parameters ≡ length n
     → Floors w i j f g a b u v r s
     → dot (summed w i j k f g a b) (in_columns x y l m u v (n ++ pos 1 ∷ [])) ≡ ((i *ℤ affine_at a x r n) +ℤ (j *ℤ affine_at b y s n)) +ℤ k
@@ -88,7 +88,7 @@ subscripts_meet w a b x y l m u v n at sa sb =
     let value = summed_value w (pos 1) (negsuc 0) (pos 0) _ _ a b x y l m u v n [] [] at sa.iterators_are sb.iterators_are sa.parameters_are sb.parameters_are floors in
     (λ h. omega (arith, ints), λ h. omega (arith, ints))
 
-level_floors : (w : Widths) (i j : ℤ) (a b : Affine) (u v : List ℤ) → length a.floors ≡ w.source_floors → length b.floors ≡ w.target_floors
+pub level_floors : (w : Widths) (i j : ℤ) (a b : Affine) (u v : List ℤ) → length a.floors ≡ w.source_floors → length b.floors ≡ w.target_floors
     → Floors w i j (scale i a.floors) (scale j b.floors) a b u v u v
 level_floors w i j a b u v e f = record {
   source_is = length_scale i a.floors ∙ e;

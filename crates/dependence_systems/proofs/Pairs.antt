@@ -232,14 +232,14 @@ ordered context sides is_context all n a b h =
     }
 
 -- the entry of an ordered pair
-record Found (context : System) (sides : List Side) (n : List ℤ) (a b : Instance) : Type 0 where
-  entry : Dep
-  is_entry : IsEntry sides entry
-  source_is : a.statement ≡ entry.source
-  target_is : b.statement ≡ entry.target
-  holds : PairHolds (named context sides entry is_entry) entry.level a.values b.values n
+pub record Found (context : System) (sides : List Side) (n : List ℤ) (a b : Instance) : Type 0 where
+  pub entry : Dep
+  pub is_entry : IsEntry sides entry
+  pub source_is : a.statement ≡ entry.source
+  pub target_is : b.statement ≡ entry.target
+  pub holds : PairHolds (named context sides entry is_entry) entry.level a.values b.values n
 
-found : (context : System) (sides : List Side) → IsContext context → All (SideFits context.shape.parameters) sides
+pub found : (context : System) (sides : List Side) → IsContext context → All (SideFits context.shape.parameters) sides
     → (n : List ℤ) → LiesIn context [] [] n → (a b : Instance) → IsOrdered sides n a b → Found context sides n a b
 found context sides is_context all n in_context a b h =
     let N = context.shape.parameters in

@@ -22,12 +22,12 @@ use Rattle.dependence_systems.specs.Pairs.{LiesInList, IsOrdered, UsesTouch, use
 use Rattle.dependence_systems.specs.Originals.{IsPiece, ArePieces, HasOriginals, as_original, ConflictsByOld, SystemsHoldOldConflicts, SystemsHoldConflicts, OriginalsAreOwn}
 use Rattle.dependence_systems.proofs.Pairs.{all_member, systems_hold_ordered_pairs}
 
-statement_is : (statements : List Statement) (k : ℕ) → statement_at statements k ≡ member statements k
+pub statement_is : (statements : List Statement) (k : ℕ) → statement_at statements k ≡ member statements k
 statement_is statements zero = refl
 statement_is statements (suc k) = refl
 
 -- statement s under a schedule fits
-side_fits : (N : ℕ) (s : Statement) (schedule : Schedule) → IsShapedStatement N s → IsFormedStatement s → IsSolvedSchedule (length s.body.iterators) N schedule → SideFits N (under s schedule)
+pub side_fits : (N : ℕ) (s : Statement) (schedule : Schedule) → IsShapedStatement N s → IsFormedStatement s → IsSolvedSchedule (length s.body.iterators) N schedule → SideFits N (under s schedule)
 side_fits N s schedule shaped formed solved = record { domain = shaped.domain; formed = formed.domain; accesses = shaped.accesses; schedule = solved }
 
 -- the schedule of the original fits its piece
@@ -109,7 +109,7 @@ own_back [] j side e = absurd (cc)
 own_back (t ∷ now) zero side e = (t, refl, sym (same_value e))
 own_back (t ∷ now) (suc j) side e = own_back now j side e
 
-own_match : (now : List Statement) → Matches now (map (λ t. under t t.schedule) now) (λ k. schedule_in (member now k))
+pub own_match : (now : List Statement) → Matches now (map (λ t. under t t.schedule) now) (λ k. schedule_in (member now k))
 own_match now = record { into = λ k s e. into k s e; back = λ k side e. back k side e }
   where
     into : (k : ℕ) (s : Statement) → member now k ≡ Some s → member (map (λ t. under t t.schedule) now) k ≡ Some (under s (schedule_in (member now k)))
@@ -121,7 +121,7 @@ own_match now = record { into = λ k s e. into k s e; back = λ k side e. back k
     back (suc k) side e = own_back now k side e
 
 -- stamps in a statement that may be there
-stamp_is : (found : Option Statement) (x n : List ℤ) → stamp_in found x n ≡ stamp_of (schedule_in found) x n
+pub stamp_is : (found : Option Statement) (x n : List ℤ) → stamp_in found x n ≡ stamp_of (schedule_in found) x n
 stamp_is None x n = refl
 stamp_is (Some s) x n = refl
 
@@ -131,11 +131,11 @@ some_and P None h = absurd h
 some_and P (Some x) h = (x, refl, h)
 
 -- instances that touch and whose schedules order them
-record Ordered (now : ScopData) (schedule : ℕ → Schedule) (n : List ℤ) (a b : Instance) : Type 0 where
-  source : IsInstance now n a
-  target : IsInstance now n b
-  touch : Touch now n a b
-  order : Before (stamp_of (schedule a.statement) a.values n) (stamp_of (schedule b.statement) b.values n)
+pub record Ordered (now : ScopData) (schedule : ℕ → Schedule) (n : List ℤ) (a b : Instance) : Type 0 where
+  pub source : IsInstance now n a
+  pub target : IsInstance now n b
+  pub touch : Touch now n a b
+  pub order : Before (stamp_of (schedule a.statement) a.values n) (stamp_of (schedule b.statement) b.values n)
 
 instance_of : (now : ScopData) (n : List ℤ) (a : Instance) (s : Statement) → statement_at now.statements a.statement ≡ Some s → InDomain s a.values n → IsInstance now n a
 instance_of now n a s e h = subst (λ found. IsSomeAnd found (λ t. InDomain t a.values n)) (sym e) h
@@ -158,7 +158,7 @@ ordered_instances now sides schedule match n a b h =
           (subst (λ v. Before (stamp_of h.source.schedule a.values n) (stamp_of v.schedule b.values n)) t.2 h.order);
     }
 
-ordered_sides : (now : ScopData) (sides : List Side) (schedule : ℕ → Schedule) → Matches now.statements sides schedule → (n : List ℤ) (a b : Instance)
+pub ordered_sides : (now : ScopData) (sides : List Side) (schedule : ℕ → Schedule) → Matches now.statements sides schedule → (n : List ℤ) (a b : Instance)
     → Ordered now schedule n a b → IsOrdered sides n a b
 ordered_sides now sides schedule match n a b h =
     let s = some_and (λ t. InDomain t a.values n) (statement_at now.statements a.statement) h.source in

@@ -23,14 +23,14 @@ solved_floors : (iterators parameters : ℕ) (schedule : Schedule) → IsSolvedS
 solved_floors iterators parameters schedule solved = record { forms = solved.relation.floors; sizes = solved.sizes; earlier = solved.earlier }
 
 -- as many values as floors
-length_floors : (earlier : List ℤ) (floors : List Floor) (x n : List ℤ) → length (floors_after earlier floors x n) ≡ length earlier + length floors
+pub length_floors : (earlier : List ℤ) (floors : List Floor) (x n : List ℤ) → length (floors_after earlier floors x n) ≡ length earlier + length floors
 length_floors earlier [] x n = omega arith
 length_floors earlier (f ∷ fs) x n =
     length_floors (earlier ++ floor_of (affine_at f.value x earlier n) f.size ∷ []) fs x n
     ∙ omega (arith, length-append earlier (floor_of (affine_at f.value x earlier n) f.size ∷ []))
 
 -- the rows of a schedule's floors hold exactly where the locals are the values of the floors
-floors_mean : (iterators parameters : ℕ) (schedule : Schedule) → IsSolvedSchedule iterators parameters schedule → (x l n : List ℤ)
+pub floors_mean : (iterators parameters : ℕ) (schedule : Schedule) → IsSolvedSchedule iterators parameters schedule → (x l n : List ℤ)
     → length x ≡ iterators → length l ≡ length schedule.floors → length n ≡ parameters
     → MeetsAll (floor_part iterators parameters schedule.floors).rows (x ++ (l ++ (n ++ pos 1 ∷ []))) ↔ (l ≡ floors_after [] schedule.floors x n)
 floors_mean iterators parameters schedule solved x l n ex el en =
@@ -89,7 +89,7 @@ context_lies context n fits e h = record {
   meets = h;
 }
 
-context_meets : (context : System) (n : List ℤ) → IsContext context → LiesIn context [] [] n → MeetsAll context.rows (n ++ pos 1 ∷ [])
+pub context_meets : (context : System) (n : List ℤ) → IsContext context → LiesIn context [] [] n → MeetsAll context.rows (n ++ pos 1 ∷ [])
 context_meets context n fits h =
     subst (λ l. MeetsAll context.rows (coordinates [] [] l n)) (nothing h.locals (h.locals_are ∙ fits.locals)) h.meets
 
