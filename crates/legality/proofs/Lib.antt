@@ -1,2 +1,8 @@
 mod Samples
 mod Checks
+pub mod MixedStamps
+pub mod MixedSides
+pub mod ReversedRows
+pub mod ViolationMeanings
+pub mod ReversedPairs
+pub mod KeptMemories

@@ -3,4 +3,5 @@ pub mod Mixed
 pub mod Reversals
 pub mod Violations
 pub mod Answers
+pub mod Edits
 pub mod Memories
