@@ -24,3 +24,15 @@ pub struct Dep {
     pub target_part: u32,
     pub level: u32,
 }
+
+/// The two statements of a dependence: their numbers, from 1, how many parts their domains have, how
+/// many loops are around both, and whether the first one stands before the second one in the text.
+#[derive(Clone, Copy, Debug, PartialEq, Eq)]
+pub struct Ends {
+    pub source: u32,
+    pub target: u32,
+    pub source_parts: u32,
+    pub target_parts: u32,
+    pub common: u32,
+    pub in_text: bool,
+}

@@ -5,6 +5,7 @@
 mod building;
 mod comparing;
 mod deps;
+mod entries;
 pub mod laws;
 mod level_rows;
 mod level_tests;
