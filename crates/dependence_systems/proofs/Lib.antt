@@ -7,6 +7,7 @@ pub mod LevelTests
 pub mod NamedSides
 pub mod Members
 pub mod Pairs
+pub mod Pushes
 pub mod RowMeanings
 pub mod ScopPairs
 pub mod Segments

@@ -1,0 +1,76 @@
+-- Lists of entries that are appended one after the other.
+use Rattle.std.proofs.Common.{◌≡◌, ℕ, zero, suc, ◌+◌, ◌-◌, ◌<◌, ◌≤◌, List, [], ◌∷◌, ◌++◌, map, length, drop, get_or, Option, refl, ap, sym, ◌∙◌, subst, arith, append_assoc}
+use Rattle.std.specs.List.{flat_map, range_with_len}
+use Rattle.std.proofs.lemmas.List.{length-append}
+use Rattle.std.proofs.lemmas.List.Concat.{flat_map-cons}
+use Rattle.std.proofs.Math.Seq.{drop-cons}
+use Rattle.suite_base.specs.declared.refusals.Fail.{Fail}
+use Rattle.suite_base.specs.declared.refusals.Fail.TheVariants.{Memory, Refused}
+use Rattle.dependence_systems.specs.declared.deps.Dep.{Dep}
+use Rattle.dependence_systems.specs.Entries.{numbered, IsTooMany}
+
+-- too many already in a part
+pub too_many : (part whole : List Dep) (fail : Fail) → length part ≤ length whole → IsTooMany part fail → IsTooMany whole fail
+too_many part whole Memory h g = tt
+too_many part whole (Refused r) h g = (g.0, omega (arith, h, g.1))
+
+-- numbers from k + 1 to n
+range_split : (k n : ℕ) → k < n → range_with_len (k + 1) (n - k) ≡ (k + 1) ∷ range_with_len (k + 1 + 1) (n - (k + 1))
+range_split k n h = ap (λ m. range_with_len (k + 1) m) (let e : n - k ≡ suc (n - (k + 1)) = omega arith in e)
+
+-- what is appended for one number more
+rest_split : {X : Type 0} (f : ℕ → List X) (list whole : List X) (k n : ℕ) → k < n → list ++ flat_map f (range_with_len (k + 1) (n - k)) ≡ whole
+    → (list ++ f (k + 1)) ++ flat_map f (range_with_len (k + 1 + 1) (n - (k + 1))) ≡ whole
+rest_split f list whole k n h e =
+    append_assoc list (f (k + 1)) (flat_map f (range_with_len (k + 1 + 1) (n - (k + 1))))
+    ∙ (sym (ap (λ t. list ++ t) (ap (λ r. flat_map f r) (range_split k n h) ∙ flat_map-cons f (k + 1) (range_with_len (k + 1 + 1) (n - (k + 1))))) ∙ e)
+
+pub range_step : {X : Type 0} (f : ℕ → List X) (list new whole : List X) (k n : ℕ) → k < n → list ++ flat_map f (range_with_len (k + 1) (n - k)) ≡ whole → new ≡ list ++ f (k + 1)
+    → new ++ flat_map f (range_with_len (k + 1 + 1) (n - (k + 1))) ≡ whole
+range_step f list new whole k n h e made = ap (λ t. t ++ flat_map f (range_with_len (k + 1 + 1) (n - (k + 1)))) made ∙ rest_split f list whole k n h e
+
+pub range_too_many : (f : ℕ → List Dep) (list whole : List Dep) (k n : ℕ) (fail : Fail) → k < n → list ++ flat_map f (range_with_len (k + 1) (n - k)) ≡ whole
+    → IsTooMany (list ++ f (k + 1)) fail → IsTooMany whole fail
+range_too_many f list whole k n fail h e g =
+    let split = ap length (rest_split f list whole k n h e) in
+    too_many (list ++ f (k + 1)) whole fail (omega (arith, split, length-append (list ++ f (k + 1)) (flat_map f (range_with_len (k + 1 + 1) (n - (k + 1)))))) g
+
+-- the same with one entry for each number
+map_split : {X : Type 0} (f : ℕ → X) (list whole : List X) (k n : ℕ) → k < n → list ++ map f (range_with_len (k + 1) (n - k)) ≡ whole
+    → (list ++ f (k + 1) ∷ []) ++ map f (range_with_len (k + 1 + 1) (n - (k + 1))) ≡ whole
+map_split f list whole k n h e =
+    append_assoc list (f (k + 1) ∷ []) (map f (range_with_len (k + 1 + 1) (n - (k + 1))))
+    ∙ (sym (ap (λ t. list ++ t) (ap (λ r. map f r) (range_split k n h))) ∙ e)
+
+pub map_step : {X : Type 0} (f : ℕ → X) (list new whole : List X) (k n : ℕ) → k < n → list ++ map f (range_with_len (k + 1) (n - k)) ≡ whole → new ≡ list ++ f (k + 1) ∷ []
+    → new ++ map f (range_with_len (k + 1 + 1) (n - (k + 1))) ≡ whole
+map_step f list new whole k n h e made = ap (λ t. t ++ map f (range_with_len (k + 1 + 1) (n - (k + 1)))) made ∙ map_split f list whole k n h e
+
+pub map_too_many : (f : ℕ → Dep) (list whole : List Dep) (k n : ℕ) (fail : Fail) → k < n → list ++ map f (range_with_len (k + 1) (n - k)) ≡ whole
+    → IsTooMany (list ++ f (k + 1) ∷ []) fail → IsTooMany whole fail
+map_too_many f list whole k n fail h e g =
+    let split = ap length (map_split f list whole k n h e) in
+    too_many (list ++ f (k + 1) ∷ []) whole fail (omega (arith, split, length-append (list ++ f (k + 1) ∷ []) (map f (range_with_len (k + 1 + 1) (n - (k + 1)))))) g
+
+-- and with members of a list and their numbers
+numbered_split : {X Y : Type 0} (f : ℕ × X → List Y) (xs : List X) (d : X) (list whole : List Y) (k : ℕ) → k < length xs → list ++ flat_map f (numbered (k + 1) (drop k xs)) ≡ whole
+    → (list ++ f (k + 1, get_or xs k d)) ++ flat_map f (numbered (k + 1 + 1) (drop (k + 1) xs)) ≡ whole
+numbered_split {X} {Y} f xs d list whole k h e =
+    let x : X = get_or xs k d in
+    let next : suc k ≡ k + 1 = omega arith in
+    let split : numbered (k + 1) (drop k xs) ≡ (k + 1, x) ∷ numbered (k + 1 + 1) (drop (k + 1) xs)
+    = ap (λ t. numbered (k + 1) t) (drop-cons xs k d h ∙ ap (λ j. x ∷ drop j xs) next) in
+    append_assoc list (f (k + 1, x)) (flat_map f (numbered (k + 1 + 1) (drop (k + 1) xs)))
+    ∙ (sym (ap (λ t. list ++ t) (ap (λ r. flat_map f r) split ∙ flat_map-cons f (k + 1, x) (numbered (k + 1 + 1) (drop (k + 1) xs)))) ∙ e)
+
+pub numbered_step : {X Y : Type 0} (f : ℕ × X → List Y) (xs : List X) (d : X) (list new whole : List Y) (k : ℕ) → k < length xs → list ++ flat_map f (numbered (k + 1) (drop k xs)) ≡ whole
+    → new ≡ list ++ f (k + 1, get_or xs k d) → new ++ flat_map f (numbered (k + 1 + 1) (drop (k + 1) xs)) ≡ whole
+numbered_step f xs d list new whole k h e made =
+    ap (λ t. t ++ flat_map f (numbered (k + 1 + 1) (drop (k + 1) xs))) made ∙ numbered_split f xs d list whole k h e
+
+pub numbered_too_many : {X : Type 0} (f : ℕ × X → List Dep) (xs : List X) (d : X) (list whole : List Dep) (k : ℕ) (fail : Fail) → k < length xs
+    → list ++ flat_map f (numbered (k + 1) (drop k xs)) ≡ whole → IsTooMany (list ++ f (k + 1, get_or xs k d)) fail → IsTooMany whole fail
+numbered_too_many {X} f xs d list whole k fail h e g =
+    let x : X = get_or xs k d in
+    let split = ap length (numbered_split f xs d list whole k h e) in
+    too_many (list ++ f (k + 1, x)) whole fail (omega (arith, split, length-append (list ++ f (k + 1, x)) (flat_map f (numbered (k + 1 + 1) (drop (k + 1) xs))))) g
