@@ -14,11 +14,11 @@ use Rattle.scop_core.specs.Validity.{IsValid}
 use Rattle.scop_core.proofs.KeptLimits.{keeps_limits}
 use Rattle.scop_core.proofs.ScopShapes.{scops_are_formed, scops_are_shaped}
 use Rattle.dependence_systems.specs.declared.deps.Dep.{Dep}
-use Rattle.dependence_systems.specs.Sides.{Side, member, schedule_in, under, under_originals, sides}
+use Rattle.dependence_systems.specs.Sides.{Side, member, schedule_in, under, under_originals, sides, member_or, no_side}
 use Rattle.dependence_systems.specs.Entries.{entries}
 use Rattle.dependence_systems.specs.Fits.{SideFits, PairingFits}
 use Rattle.dependence_systems.specs.Originals.{IsPiece, ArePieces, HasOriginals}
-use Rattle.dependence_systems.specs.Systems.{Pairing, pairing, pairing_of, member_or, no_side, no_part, no_access, system_shape}
+use Rattle.dependence_systems.specs.Systems.{Pairing, pairing, pairing_of, no_part, no_access, system_shape}
 use Rattle.dependence_systems.specs.Lookups.{HasSide, IsReady}
 use Rattle.dependence_systems.proofs.EntryFound.{IsEntry, listed_entry}
 use Rattle.dependence_systems.proofs.Pairs.{all_member, named, is_named, named_fits}

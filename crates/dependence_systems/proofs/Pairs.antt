@@ -26,9 +26,9 @@ use Rattle.scop_core.proofs.LevelOrder.{schedules_order_at_a_level}
 use Rattle.dependence_systems.specs.declared.deps.Dep.{Dep}
 use Rattle.dependence_systems.specs.declared.deps.DepKind.{DepKind}
 use Rattle.dependence_systems.specs.declared.deps.DepKind.TheVariants.{Raw, War, Waw}
-use Rattle.dependence_systems.specs.Sides.{Side, member}
+use Rattle.dependence_systems.specs.Sides.{Side, member, member_or, no_side}
 use Rattle.dependence_systems.specs.Entries.{kind_between, can_meet, entries}
-use Rattle.dependence_systems.specs.Systems.{Pairing, pairing_of, member_or, no_side, no_part, no_access, system_of, level_system}
+use Rattle.dependence_systems.specs.Systems.{Pairing, pairing_of, no_part, no_access, system_of, level_system}
 use Rattle.dependence_systems.specs.Fits.{SideFits, PairingFits, SubscriptsFit}
 use Rattle.dependence_systems.specs.Pairs.{LiesInEntry, LiesInList, uses_of, UsesTouch, IsOrdered, SystemsHoldOrderedPairs}
 use Rattle.dependence_systems.proofs.Members.{Image, in_map, from_map}

@@ -15,8 +15,7 @@ use Rattle.scop_core.specs.ReadBack.{IsSolvedSchedule}
 use Rattle.scop_core.specs.Shapes.{IsShapedStatement, IsFormedStatement}
 use Rattle.scop_core.specs.Validity.{IsValid}
 use Rattle.scop_core.proofs.ScopShapes.{scops_are_formed, scops_are_shaped}
-use Rattle.dependence_systems.specs.Sides.{Side, member, schedule_in, under, under_originals, sides, own_sides}
-use Rattle.dependence_systems.specs.Systems.{member_or}
+use Rattle.dependence_systems.specs.Sides.{Side, member, schedule_in, under, under_originals, sides, own_sides, member_or}
 use Rattle.dependence_systems.specs.Fits.{SideFits}
 use Rattle.dependence_systems.specs.Pairs.{LiesInList, IsOrdered, UsesTouch, uses_of}
 use Rattle.dependence_systems.specs.Originals.{IsPiece, ArePieces, HasOriginals, as_original, ConflictsByOld, SystemsHoldOldConflicts, SystemsHoldConflicts, OriginalsAreOwn}

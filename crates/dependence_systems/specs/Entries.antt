@@ -15,7 +15,7 @@ use Rattle.dependence_systems.specs.declared.deps.DepKind.{DepKind}
 use Rattle.dependence_systems.specs.declared.deps.Ends.{Ends}
 use Rattle.dependence_systems.specs.declared.deps.DepKind.TheVariants.{Raw, War, Waw}
 use Rattle.scop_core.specs.LevelOrder.{common_loops, is_textually_before}
-use Rattle.dependence_systems.specs.Sides.{Side}
+use Rattle.dependence_systems.specs.Sides.{Side, member, member_or, no_side}
 
 -- the members of a list with their numbers, the first one with number k
 abbrev pub numbered : {X : Type 0} → ℕ → List X → List (ℕ × X)
@@ -98,6 +98,18 @@ entries_among ends firsts seconds = flat_map (λ a. entries_from ends a seconds)
 -- the entries of two statements
 abbrev pub between : ℕ × Side → ℕ × Side → List Dep
 between s t = entries_among (ends_of s t) s.1.accesses t.1.accesses
+
+-- the statement of a number and its number
+abbrev pub side_at : List Side → ℕ → ℕ × Side
+side_at sides k = (k, member_or no_side (member sides k))
+
+-- the entries of a source statement, by target statement, of which there are so many
+abbrev pub entries_of_source : List Side → ℕ → ℕ → List Dep
+entries_of_source sides count j = flat_map (λ k. between (side_at sides j) (side_at sides k)) (range_with_len 1 count)
+
+-- the entries of so many statements, by their numbers
+abbrev pub entries_by_number : List Side → ℕ → List Dep
+entries_by_number sides count = flat_map (λ j. entries_of_source sides count j) (range_with_len 1 count)
 
 -- all entries, by source statement and target statement
 abbrev pub entries : List Side → List Dep

@@ -6,8 +6,7 @@ use Rattle.scop_core.specs.ScopData.{ScopData}
 use Rattle.scop_core.specs.Order.{Before}
 use Rattle.scop_core.specs.Meaning.{InContext, Instance, IsInstance, stamp, Touch, Conflict}
 use Rattle.scop_core.specs.Validity.{IsValid}
-use Rattle.dependence_systems.specs.Sides.{member, sides, own_sides}
-use Rattle.dependence_systems.specs.Systems.{member_or}
+use Rattle.dependence_systems.specs.Sides.{member, sides, own_sides, member_or}
 use Rattle.dependence_systems.specs.Pairs.{LiesInList}
 
 -- a statement has an original of this number among the old ones, with as many iterators

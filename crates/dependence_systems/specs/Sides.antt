@@ -18,6 +18,11 @@ abbrev pub member : {X : Type 0} → List X → ℕ → Option X
 member xs zero = None
 member xs (suc k) = slice_get xs k
 
+-- what was found, or what stands for it
+abbrev pub member_or : {X : Type 0} → X → Option X → X
+member_or nothing None = nothing
+member_or nothing (Some x) = x
+
 -- the schedule of nothing
 abbrev pub no_schedule : Schedule
 no_schedule = record { floors = []; levels = []; betas = [] }
@@ -30,6 +35,10 @@ schedule_in (Some s) = s.schedule
 -- a statement under a schedule
 abbrev pub under : Statement → Schedule → Side
 under s schedule = record { iterators = length s.body.iterators; domain = s.domain; accesses = s.accesses; schedule = schedule }
+
+-- the side of nothing
+abbrev pub no_side : Side
+no_side = record { iterators = 0; domain = []; accesses = []; schedule = no_schedule }
 
 -- each statement under the schedule of its original, which is known by its number
 abbrev pub under_originals : List Statement → List Statement → List ℕ → List Side

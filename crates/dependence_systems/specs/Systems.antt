@@ -1,5 +1,5 @@
 -- The rows of a dependence system, over unbounded integers.
-use Rattle.std.specs.Prelude.{ℤ, pos, negsuc, ◌+ℤ◌, ◌*ℤ◌, ℕ, zero, suc, ◌+◌, List, [], ◌∷◌, ◌++◌, map, take, drop, length, Option, Some, None, max, unsigned_abs}
+use Rattle.std.specs.Prelude.{ℤ, pos, negsuc, ◌+ℤ◌, ◌*ℤ◌, ℕ, zero, suc, ◌+◌, List, [], ◌∷◌, ◌++◌, map, take, drop, length, max, unsigned_abs}
 use Rattle.row_core.specs.Rows.{scale, combined, combined_weight, pair_weight}
 use Rattle.relation_core.specs.Systems.{System, no_rows}
 use Rattle.relation_core.specs.declared.shapes.Shape.{Shape}
@@ -15,7 +15,7 @@ use Rattle.dependence_systems.specs.declared.widths.Widths.{Widths}
 use Rattle.dependence_systems.specs.declared.widths.Topic.{Topic}
 use Rattle.dependence_systems.specs.declared.widths.Topic.TheVariants.{Context, SourcePart, TargetPart, SourceFloors, TargetFloors}
 use Rattle.scop_core.specs.LevelOrder.{common_loops}
-use Rattle.dependence_systems.specs.Sides.{Side, no_schedule, member}
+use Rattle.dependence_systems.specs.Sides.{Side, member, member_or, no_side}
 
 -- what a system is made of: the context, and of source and target a domain part, an access and a schedule
 pub record Pairing : Type 0 where
@@ -159,14 +159,6 @@ no_part = no_rows (record { outputs = 0; inputs = 0; locals = 0; parameters = 0 
 
 abbrev pub no_access : Access
 no_access = record { kind = Read; array = pos 0; subscripts = [] }
-
-abbrev pub no_side : Side
-no_side = record { iterators = 0; domain = []; accesses = []; schedule = no_schedule }
-
--- member number k of a list, or what stands for it
-abbrev pub member_or : {X : Type 0} → X → Option X → X
-member_or nothing None = nothing
-member_or nothing (Some x) = x
 
 -- what an entry's system is made of
 abbrev pub pairing_of : System → List Side → Dep → Pairing

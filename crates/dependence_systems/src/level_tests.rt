@@ -1,6 +1,6 @@
 //! The loops that two statements have in common, from their beta vectors.
 
-ghost use Rattle.std.specs.Prelude.{◌≡◌, ◌<◌, drop, length};
+ghost use Rattle.std.specs.Prelude.{◌≡◌, ◌<◌, ◌≤◌, drop, length};
 ghost use Rattle.scop_core.specs.LevelOrder.{common_loops, is_textually_before};
 ghost use Rattle.dependence_systems.specs.Comparisons.{starts_common};
 
@@ -22,7 +22,8 @@ fn starts_common_at(p: &[Coeff], q: &[Coeff], k: usize) -> bool
 
 /// How many loops are around both of two statements with these beta vectors.
 pub fn count_common(p: &[Coeff], q: &[Coeff]) -> usize
-    ensures { result ≡ common_loops p.now q.now }
+    ensures answer { result ≡ common_loops p.now q.now }
+    ensures within { result ≤ length p.now }
 {
     for k in 0..p.len() {
         if !starts_common_at(p, q, k) {
