@@ -1,5 +1,5 @@
 -- A pair that touches and whose order an edit reverses lies in the system of a violation.
-use Rattle.std.proofs.Common.{◌≡◌, ℕ, List, ◌++◌, true, length, All, Option, Some, None, IsSomeAnd, ℤ, refl, ap, sym, ◌∙◌, subst}
+use Rattle.std.proofs.Common.{◌≡◌, ℕ, List, true, length, All, Option, Some, None, IsSomeAnd, ℤ, refl, ap, sym, ◌∙◌, subst}
 use Rattle.relation_core.specs.Systems.{System}
 use Rattle.relation_core.specs.Points.{LiesIn}
 use Rattle.scop_core.specs.declared.accesses.Access.{Access}
@@ -15,23 +15,22 @@ use Rattle.scop_core.specs.Shapes.{IsShapedStatement}
 use Rattle.scop_core.proofs.LevelOrder.{schedules_order_at_a_level, levels_are_listed}
 use Rattle.scop_core.proofs.ScopShapes.{scops_are_formed, scops_are_shaped}
 use Rattle.dependence_systems.specs.declared.deps.Dep.{Dep}
-use Rattle.dependence_systems.specs.Sides.{Side, member, schedule_in, under, sides, own_sides}
+use Rattle.dependence_systems.specs.Sides.{Side, member, schedule_in, under, sides}
 use Rattle.dependence_systems.specs.Entries.{kind_between, can_meet}
-use Rattle.dependence_systems.specs.Systems.{Pairing, pairing_of, system_shape, base_rows, level_rows, member_or, no_side, no_part, no_access}
-use Rattle.dependence_systems.specs.Fits.{SideFits, PairingFits}
+use Rattle.dependence_systems.specs.Systems.{Pairing, pairing_of, widths_of, member_or, no_side, no_part, no_access}
+use Rattle.dependence_systems.specs.Fits.{SideFits, PairingFits, SchedulesFit}
 use Rattle.dependence_systems.specs.Originals.{as_original}
 use Rattle.dependence_systems.proofs.Members.{in_flat_map, in_map}
 use Rattle.dependence_systems.proofs.EntryFound.{IsEntry, entry_listed}
 use Rattle.dependence_systems.proofs.SystemMeanings.{PairHolds}
 use Rattle.dependence_systems.proofs.Pairs.{all_member, Found, found, named_fits}
-use Rattle.dependence_systems.proofs.ScopPairs.{Matches, Ordered, ordered_sides, originals_match, own_match, statement_is, stamp_is}
+use Rattle.dependence_systems.proofs.ScopPairs.{Matches, Ordered, ordered_sides, originals_match, statement_is, stamp_is}
 use Rattle.legality.specs.Mixed.{mixed, mixed_sides}
-use Rattle.legality.specs.Violations.{Edit, dependences, new_levels, violations_of, renewed, violation_system}
-use Rattle.legality.specs.Reversals.{reversed_rows}
+use Rattle.legality.specs.Violations.{Edit, dependences, new_levels, violations_of, shared_pairing, violation_system}
 use Rattle.legality.specs.Edits.{IsEdit, ReversedPairsLieInViolations}
 use Rattle.legality.proofs.MixedStamps.{mixed_stamp}
 use Rattle.legality.proofs.MixedSides.{old_schedule, mixed_schedule, mixed_match, HasOriginal, original_of, pieces_are, mixed_fit}
-use Rattle.legality.proofs.ViolationMeanings.{Parts, with_schedules, lies_in_violation}
+use Rattle.legality.proofs.ViolationMeanings.{Parts, with_schedules, reversed_system, lies_in_violation}
 
 -- there is a statement
 abbrev HasStatement : Option Statement → Type 0
@@ -169,20 +168,14 @@ solved_at N now shaped k s e place part h =
     let p : IsDomainPart (length s.body.iterators) N part = all_member (IsDomainPart (length s.body.iterators) N) s.domain place part h at.domain in
     subst (λ found. IsSolvedSchedule part.shape.outputs N (schedule_in found)) (sym e) (subst (λ i. IsSolvedSchedule i N s.schedule) (sym p.outputs) at.schedule)
 
--- the same parts fit under the new schedules
-renewed_fits : (N : ℕ) (p : Parts) (old_s old_t now_s now_t : Schedule) → N ≡ p.context.shape.parameters → PairingFits (with_schedules p old_s old_t)
-    → IsSolvedSchedule p.source_part.shape.outputs N now_s → IsSolvedSchedule p.target_part.shape.outputs N now_t → PairingFits (with_schedules p now_s now_t)
-renewed_fits N p old_s old_t now_s now_t e fits s t = record {
-  context = fits.context;
-  source_part = fits.source_part;
-  target_part = fits.target_part;
-  source_formed = fits.source_formed;
-  target_formed = fits.target_formed;
-  subscripts = fits.subscripts;
-  source_subscripts = fits.source_subscripts;
-  target_subscripts = fits.target_subscripts;
-  source_schedule = subst (λ c. IsSolvedSchedule p.source_part.shape.outputs c now_s) e s;
-  target_schedule = subst (λ c. IsSolvedSchedule p.target_part.shape.outputs c now_t) e t;
+-- the new schedules fit the columns
+renewed_fit : (N : ℕ) (p : Parts) (old_s now_s old_t now_t : Schedule) → IsSolvedSchedule p.source_part.shape.outputs N now_s → IsSolvedSchedule p.target_part.shape.outputs N now_t
+    → SchedulesFit (widths_of (with_schedules p (mixed old_s now_s) (mixed old_t now_t))) N now_s now_t
+renewed_fit N p old_s now_s old_t now_t s t = record {
+  source_levels = s.relation.levels;
+  target_levels = t.relation.levels;
+  source_betas = s.relation.betas;
+  target_betas = t.relation.betas;
 }
 
 -- the stamps of an instance before and after
@@ -304,18 +297,16 @@ reversed_pairs E edit n in_context a b h =
     let s = schedule_in (member now e.source) in
     let r = schedule_in (member now e.target) in
     let level : NewLevel now n a b e = new_level E edit n a b e t f.source_is f.target_is h.after in
-    let fits : PairingFits (with_schedules P s r) = renewed_fits N P (mixed_schedule old now E.of e.source) (mixed_schedule old now E.of e.target) s r refl kept.fits
+    let fits = renewed_fit N P (old_schedule old E.of e.source) s (old_schedule old E.of e.target) r
     (solved_at N now shaped e.source t.source t.source_is e.source_part t.source_domain t.source_domain_is)
     (solved_at N now shaped e.target t.target t.target_is e.target_part t.target_domain t.target_domain_is) in
     let lies = lies_in_violation P (old_schedule old E.of e.source) s (old_schedule old E.of e.target) r e.level level.level a.values b.values n
     kept.fits fits kept.level level.is_level kept.holds level.order in
-    let first : pairing_of c list e ≡ with_schedules P (mixed_schedule old now E.of e.source) (mixed_schedule old now E.of e.target)
+    let first : shared_pairing E e ≡ with_schedules P (mixed_schedule old now E.of e.source) (mixed_schedule old now E.of e.target)
     = pairing_by E e list (mixed_schedule old now E.of) match t in
-    let second : renewed E e ≡ with_schedules P s r = pairing_by E e (own_sides E.now) (λ k. schedule_in (member now k)) (own_match now) t in
-    let System_of : Pairing → Pairing → System = λ m q. record { shape = system_shape m; rows = (base_rows m ++ level_rows m e.level) ++ reversed_rows q level.level } in
     let same : violation_system E (record { entry = e; level = level.level })
-    ≡ System_of (with_schedules P (mixed_schedule old now E.of e.source) (mixed_schedule old now E.of e.target)) (with_schedules P s r)
-    = ap (λ m. System_of m (renewed E e)) first ∙ ap (λ q. System_of (with_schedules P (mixed_schedule old now E.of e.source) (mixed_schedule old now E.of e.target)) q) second in
+    ≡ reversed_system (with_schedules P (mixed_schedule old now E.of e.source) (mixed_schedule old now E.of e.target)) e.level s r level.level
+    = ap (λ m. reversed_system m e.level s r level.level) first in
     let made : In (record { entry = e; level = level.level }) (violations_of E e)
     = in_map (λ l. record { entry = e; level = l }) (new_levels E e) level.level ((levels_are_listed r.betas s.betas level.level).1 level.is_level) in record {
       violation = record { entry = e; level = level.level };

@@ -8,13 +8,14 @@ use Rattle.relation_core.specs.Points.{Meets, MeetsAll}
 use Rattle.relation_core.specs.declared.part_rows.RowKind.TheVariants.{AtLeast}
 use Rattle.relation_core.proofs.Points.{meets_append}
 use Rattle.scop_core.specs.declared.affines.Affine.{Affine}
+use Rattle.scop_core.specs.declared.schedules.Schedule.{Schedule}
 use Rattle.scop_core.specs.SolvedRows.{HasSizes}
 use Rattle.scop_core.specs.Meaning.{affine_at, levels_at}
 use Rattle.scop_core.specs.LevelOrder.{common_loops, EqualUpTo, LessAfter, IsLevel, OrdersAt}
 use Rattle.scop_core.proofs.LevelOrder.{loops_are_common}
 use Rattle.dependence_systems.specs.declared.widths.Widths.{Widths}
-use Rattle.dependence_systems.specs.Fits.{PairingFits}
-use Rattle.dependence_systems.specs.Systems.{Pairing, widths_of, in_columns, equal_rows, rows_between}
+use Rattle.dependence_systems.specs.Fits.{SchedulesFit}
+use Rattle.dependence_systems.specs.Systems.{in_columns, equal_rows, rows_between}
 use Rattle.dependence_systems.proofs.Segments.{HasWidths}
 use Rattle.dependence_systems.proofs.Differences.{summed_value, level_floors}
 use Rattle.dependence_systems.proofs.RowMeanings.{equal_rows_meet}
@@ -57,42 +58,38 @@ greater_rows_hold w (suc k) (a ∷ xs) (b ∷ ys) x y l m u v n at sa sb h =
     greater_rows_hold w k xs ys x y l m u v n at (All-tail P a xs sa) (All-tail Q b ys sb) h.1
 
 -- loops in common, from the target's side
-record Common (m : Pairing) (k : ℕ) : Type 0 where
-  source : k ≤ length m.source_schedule.levels
-  target : k ≤ length m.target_schedule.levels
+pub record Common (s t : Schedule) (k : ℕ) : Type 0 where
+  pub source : k ≤ length s.levels
+  pub target : k ≤ length t.levels
 
-common : (m : Pairing) → PairingFits m → Common m (common_loops m.target_schedule.betas m.source_schedule.betas)
-common m fits =
-    let s = m.source_schedule in
-    let t = m.target_schedule in
-    let source : length s.betas ≡ length (levels_at s.levels [] [] []) + 1 = fits.source_schedule.relation.betas ∙ ap (λ k. k + 1) (sym (length-map s.levels (λ level. affine_at level [] [] []))) in
-    let target : length t.betas ≡ length (levels_at t.levels [] [] []) + 1 = fits.target_schedule.relation.betas ∙ ap (λ k. k + 1) (sym (length-map t.levels (λ level. affine_at level [] [] []))) in
+pub common : (w : Widths) (parameters : ℕ) (s t : Schedule) → SchedulesFit w parameters s t → Common s t (common_loops t.betas s.betas)
+common w parameters s t fits =
+    let source : length s.betas ≡ length (levels_at s.levels [] [] []) + 1 = fits.source_betas ∙ ap (λ k. k + 1) (sym (length-map s.levels (λ level. affine_at level [] [] []))) in
+    let target : length t.betas ≡ length (levels_at t.levels [] [] []) + 1 = fits.target_betas ∙ ap (λ k. k + 1) (sym (length-map t.levels (λ level. affine_at level [] [] []))) in
     let both = loops_are_common t.betas s.betas (levels_at t.levels [] [] []) (levels_at s.levels [] [] []) target source in record {
       source = omega (arith, both.1, length-map s.levels (λ level. affine_at level [] [] []));
       target = omega (arith, both.0, length-map t.levels (λ level. affine_at level [] [] []));
     }
 
-pub reversed_hold : (m : Pairing) (level : ℕ) (x y l k u v n : List ℤ) → PairingFits m → HasWidths (widths_of m) x y l k u v → length n ≡ m.context.shape.parameters
-    → IsLevel m.target_schedule.betas m.source_schedule.betas level
-    → OrdersAt (common_loops m.target_schedule.betas m.source_schedule.betas) (levels_at m.target_schedule.levels y v n) (levels_at m.source_schedule.levels x u n) level
-    → MeetsAll (reversed_rows m level) (in_columns x y l k u v (n ++ pos 1 ∷ []))
-reversed_hold m zero x y l k u v n fits at en is_level h =
-    let w = widths_of m in
-    let c = common_loops m.target_schedule.betas m.source_schedule.betas in
-    let most = common m fits in
-    (equal_rows_meet w c m.source_schedule.levels m.target_schedule.levels x y l k u v n at most.source most.target
-    (subst (λ c. All (HasSizes w.source w.source_floors c) m.source_schedule.levels) (sym en) fits.source_schedule.relation.levels)
-    (subst (λ c. All (HasSizes w.target w.target_floors c) m.target_schedule.levels) (sym en) fits.target_schedule.relation.levels)).1
-    (equal_exchanged c (levels_at m.target_schedule.levels y v n) (levels_at m.source_schedule.levels x u n) h)
-reversed_hold m (suc j) x y l k u v n fits at en is_level h =
-    let w = widths_of m in
+pub reversed_hold : (w : Widths) (parameters : ℕ) (s t : Schedule) (level : ℕ) (x y l k u v n : List ℤ) → SchedulesFit w parameters s t → HasWidths w x y l k u v
+    → length n ≡ parameters → IsLevel t.betas s.betas level
+    → OrdersAt (common_loops t.betas s.betas) (levels_at t.levels y v n) (levels_at s.levels x u n) level
+    → MeetsAll (reversed_rows w s t level) (in_columns x y l k u v (n ++ pos 1 ∷ []))
+reversed_hold w parameters s t zero x y l k u v n fits at en is_level h =
+    let c = common_loops t.betas s.betas in
+    let most = common w parameters s t fits in
+    (equal_rows_meet w c s.levels t.levels x y l k u v n at most.source most.target
+    (subst (λ c. All (HasSizes w.source w.source_floors c) s.levels) (sym en) fits.source_levels)
+    (subst (λ c. All (HasSizes w.target w.target_floors c) t.levels) (sym en) fits.target_levels)).1
+    (equal_exchanged c (levels_at t.levels y v n) (levels_at s.levels x u n) h)
+reversed_hold w parameters s t (suc j) x y l k u v n fits at en is_level h =
     let whole = in_columns x y l k u v (n ++ pos 1 ∷ []) in
-    let most = common m fits in
-    let sa : All (HasSizes w.source w.source_floors (length n)) m.source_schedule.levels
-    = subst (λ c. All (HasSizes w.source w.source_floors c) m.source_schedule.levels) (sym en) fits.source_schedule.relation.levels in
-    let sb : All (HasSizes w.target w.target_floors (length n)) m.target_schedule.levels
-    = subst (λ c. All (HasSizes w.target w.target_floors c) m.target_schedule.levels) (sym en) fits.target_schedule.relation.levels in
-    let equal = (equal_rows_meet w j m.source_schedule.levels m.target_schedule.levels x y l k u v n at
+    let most = common w parameters s t fits in
+    let sa : All (HasSizes w.source w.source_floors (length n)) s.levels
+    = subst (λ c. All (HasSizes w.source w.source_floors c) s.levels) (sym en) fits.source_levels in
+    let sb : All (HasSizes w.target w.target_floors (length n)) t.levels
+    = subst (λ c. All (HasSizes w.target w.target_floors c) t.levels) (sym en) fits.target_levels in
+    let equal = (equal_rows_meet w j s.levels t.levels x y l k u v n at
     (omega (arith, is_level, most.source)) (omega (arith, is_level, most.target)) sa sb).1
-    (less_equal j (levels_at m.target_schedule.levels y v n) (levels_at m.source_schedule.levels x u n) h) in
-    meets_append (equal_rows m j) (greater_rows m j) whole equal (greater_rows_hold w j m.source_schedule.levels m.target_schedule.levels x y l k u v n at sa sb h)
+    (less_equal j (levels_at t.levels y v n) (levels_at s.levels x u n) h) in
+    meets_append (equal_rows w s.levels t.levels j) (greater_rows w s.levels t.levels j) whole equal (greater_rows_hold w j s.levels t.levels x y l k u v n at sa sb h)

@@ -3,12 +3,13 @@ use Rattle.std.specs.Prelude.{ℕ, List, map, max, ◌++◌}
 use Rattle.std.specs.List.{flat_map}
 use Rattle.relation_core.specs.Systems.{System}
 use Rattle.elim_core.specs.Peaks.{Peak, peak}
+use Rattle.scop_core.specs.declared.schedules.Schedule.{Schedule}
 use Rattle.scop_core.specs.ScopData.{ScopData}
 use Rattle.scop_core.specs.LevelOrder.{levels_between}
 use Rattle.dependence_systems.specs.declared.deps.Dep.{Dep}
-use Rattle.dependence_systems.specs.Sides.{member, schedule_in, sides, own_sides}
+use Rattle.dependence_systems.specs.Sides.{member, schedule_in, sides}
 use Rattle.dependence_systems.specs.Entries.{entries}
-use Rattle.dependence_systems.specs.Systems.{Pairing, pairing_of, system_of, summand_weight}
+use Rattle.dependence_systems.specs.Systems.{Pairing, pairing_of, widths_of, level_system, system_weight}
 use Rattle.legality.specs.Mixed.{mixed_sides}
 use Rattle.legality.specs.Reversals.{reversed_rows, reversed_weight}
 
@@ -27,10 +28,13 @@ pub record Violation : Type 0 where
   pub entry : Dep
   pub level : ℕ
 
+-- the schedule of a new statement, by its number
+abbrev pub new_schedule : Edit → ℕ → Schedule
+new_schedule E k = schedule_in (member E.now.statements k)
+
 -- the levels at which the new schedules can put the target of a dependence before its source
 abbrev pub new_levels : Edit → Dep → List ℕ
-new_levels E e =
-    levels_between (schedule_in (member E.now.statements e.target)).betas (schedule_in (member E.now.statements e.source)).betas
+new_levels E e = levels_between (new_schedule E e.target).betas (new_schedule E e.source).betas
 
 -- the violations of a dependence, by level; it may have none
 abbrev pub violations_of : Edit → Dep → List Violation
@@ -40,23 +44,25 @@ violations_of E e = map (λ level. record { entry = e; level = level }) (new_lev
 abbrev pub violations : Edit → List Violation
 violations E = flat_map (λ e. violations_of E e) (dependences E)
 
--- what the rows of the new levels are made of
-abbrev pub renewed : Edit → Dep → Pairing
-renewed E e = pairing_of E.now.context (own_sides E.now) e
+-- what the system of a dependence is made of, with the order of the originals over the floors of the new schedules
+abbrev pub shared_pairing : Edit → Dep → Pairing
+shared_pairing E e = pairing_of E.now.context (mixed_sides E.old E.now E.of) e
 
--- the rows that the systems of all violations of a dependence share: its own, with the floors of the new schedules
+-- that system: its rows are those that the systems of all violations of the dependence share
 abbrev pub shared_system : Edit → Dep → System
-shared_system E e = system_of E.now.context (mixed_sides E.old E.now E.of) e
+shared_system E e = level_system (shared_pairing E e) e.level
 
 -- the system of a violation
 abbrev pub violation_system : Edit → Violation → System
 violation_system E v =
-    let shared = shared_system E v.entry in record { shape = shared.shape; rows = shared.rows ++ reversed_rows (renewed E v.entry) v.level }
+    let shared = shared_system E v.entry in
+    let w = widths_of (shared_pairing E v.entry) in
+    record shared { rows = shared.rows ++ reversed_rows w (new_schedule E v.entry.source) (new_schedule E v.entry.target) v.level }
 
 -- the greatest sum of the absolute values of an entry's summands in it
 abbrev pub violation_weight : Edit → Violation → ℕ
 violation_weight E v =
-    max (summand_weight E.now.context (mixed_sides E.old E.now E.of) v.entry) (reversed_weight (renewed E v.entry) v.level)
+    max (system_weight (shared_pairing E v.entry) v.entry.level) (reversed_weight (new_schedule E v.entry.source) (new_schedule E v.entry.target) v.level)
 
 -- the greatest number that the stated elimination of the system meets, sums of summands included, and the most rows
 abbrev pub violation_peak : Edit → Violation → Peak
