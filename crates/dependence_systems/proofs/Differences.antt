@@ -14,8 +14,8 @@ use Rattle.scop_core.specs.Meaning.{affine_at}
 use Rattle.scop_core.proofs.SolvedDots.{dot_append}
 use Rattle.dependence_systems.specs.declared.widths.Widths.{Widths}
 use Rattle.dependence_systems.specs.declared.widths.Comparison.{Comparison}
-use Rattle.dependence_systems.specs.declared.widths.Comparison.TheVariants.{Subscripts, EqualLevels, LessLevels}
-use Rattle.dependence_systems.specs.Comparisons.{factor_of, one_of, is_strict, floor_count, floor_columns, entries_for, Compares}
+use Rattle.dependence_systems.specs.declared.widths.Comparison.TheVariants.{Subscripts, EqualLevels, LessLevels, GreaterLevels}
+use Rattle.dependence_systems.specs.Comparisons.{factor_of, added, is_turned, floor_count, floor_columns, entries_for, Compares}
 use Rattle.relation_core.specs.Systems.{width}
 use Rattle.dependence_systems.specs.Systems.{shape_with, in_columns, summed, subscript_row, equal_row, less_row}
 use Rattle.dependence_systems.proofs.Segments.{HasWidths, columns_length, dot_columns, dot_zeros, length_zeros}
@@ -120,12 +120,13 @@ floor_columns_length : (c : Comparison) (floors : ℕ) (factor : ℤ) (value : A
 floor_columns_length Subscripts floors factor value e = length_zeros floors
 floor_columns_length EqualLevels floors factor value e = length_scale factor value.floors ∙ e
 floor_columns_length LessLevels floors factor value e = length_scale factor value.floors ∙ e
+floor_columns_length GreaterLevels floors factor value e = length_scale factor value.floors ∙ e
 
 pub comparison_length : (c : Comparison) (w : Widths) (parameters : ℕ) (a b : Affine) → Compares c w parameters a b → length (entries_for c w a b) ≡ width (shape_with w parameters)
 comparison_length c w parameters a b h =
-    let i = factor_of (is_strict c) in
-    let j = factor_of (not (is_strict c)) in
-    let k = ((i *ℤ a.constant) +ℤ (j *ℤ b.constant)) +ℤ one_of (is_strict c) in
+    let i = factor_of (is_turned c) in
+    let j = factor_of (not (is_turned c)) in
+    let k = ((i *ℤ a.constant) +ℤ (j *ℤ b.constant)) +ℤ added c in
     let f = floor_columns c w.source_floors i a in
     let g = floor_columns c w.target_floors j b in
     let sizes : HasWidths w (scale i a.iterators) (scale j b.iterators) (zeros w.source_part) (zeros w.target_part) f g = record {

@@ -97,6 +97,10 @@ equal_row w a b = record { kind = Equal; entries = summed w (pos 1) (negsuc 0) (
 abbrev pub less_row : Widths → Affine → Affine → PartRow
 less_row w a b = record { kind = AtLeast; entries = summed w (negsuc 0) (pos 1) (negsuc 0) (scale (negsuc 0) a.floors) (scale (pos 1) b.floors) a b }
 
+-- source minus target minus 1 >= 0, of two levels
+abbrev pub greater_row : Widths → Affine → Affine → PartRow
+greater_row w a b = record { kind = AtLeast; entries = summed w (pos 1) (negsuc 0) (negsuc 0) (scale (pos 1) a.floors) (scale (negsuc 0) b.floors) a b }
+
 -- one row for each two values at one place
 abbrev pub rows_between : (Affine → Affine → PartRow) → List Affine → List Affine → List PartRow
 rows_between row [] ys = []
@@ -139,6 +143,10 @@ equal_rows w source target k = rows_between (equal_row w) (take k source) (take 
 -- the row that says that level k, from 0, is less in the source
 abbrev pub less_rows : Widths → List Affine → List Affine → ℕ → List PartRow
 less_rows w source target k = rows_between (less_row w) (take 1 (drop k source)) (take 1 (drop k target))
+
+-- the row that says that level k, from 0, is greater in the source
+abbrev pub greater_rows : Widths → List Affine → List Affine → ℕ → List PartRow
+greater_rows w source target k = rows_between (greater_row w) (take 1 (drop k source)) (take 1 (drop k target))
 
 -- the rows of a level: the levels before it are equal, and it is less in the source; for level 0 all
 -- levels in common are equal
@@ -200,6 +208,10 @@ equal_weight source target k = weight_between (pos 1) (negsuc 0) (pos 0) (take k
 -- that of level k, from 0, where it is less
 abbrev pub less_weight : List Affine → List Affine → ℕ → ℕ
 less_weight source target k = weight_between (negsuc 0) (pos 1) (negsuc 0) (take 1 (drop k source)) (take 1 (drop k target))
+
+-- that of level k, from 0, where it is greater
+abbrev pub greater_weight : List Affine → List Affine → ℕ → ℕ
+greater_weight source target k = weight_between (pos 1) (negsuc 0) (negsuc 0) (take 1 (drop k source)) (take 1 (drop k target))
 
 -- that of the rows of a level
 abbrev pub level_weight : Schedule → Schedule → ℕ → ℕ

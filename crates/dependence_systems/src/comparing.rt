@@ -3,7 +3,7 @@
 ghost use Rattle.std.specs.Prelude.{◌≡◌, ◌≤◌, ◌<◌, ◌^◌, ◌++◌, ◌∷◌, [], length, not, IfOk, OnOk, IfErr};
 ghost use Rattle.row_core.specs.Rows.{scale};
 ghost use Rattle.scop_core.specs.SolvedRows.{zeros};
-ghost use Rattle.dependence_systems.specs.Comparisons.{factor_of, is_strict, kind_of, floor_columns, entries_for, row_for, weight_for, weights_for, Compares, AllCompare};
+ghost use Rattle.dependence_systems.specs.Comparisons.{factor_of, is_turned, kind_of, constant_for, constant_weight, floor_columns, entries_for, row_for, weight_for, weights_for, Compares, AllCompare};
 ghost use Rattle.dependence_systems.specs.Systems.{rows_between, shape_with};
 
 use crate::pieces::{push_constant_difference, push_differences, push_signed, push_zeros};
@@ -15,14 +15,15 @@ use std::alloc::Global;
 use suite_base::NoMemory;
 
 impl Comparison {
-    /// Whether the source is to be less.
-    fn strict(self) -> bool
-        ensures { result ≡ is_strict self }
+    /// Whether the source is taken from the target.
+    fn turned(self) -> bool
+        ensures { result ≡ is_turned self }
     {
         match self {
             Comparison::Subscripts => false,
             Comparison::EqualLevels => false,
             Comparison::LessLevels => true,
+            Comparison::GreaterLevels => false,
         }
     }
 
@@ -34,6 +35,7 @@ impl Comparison {
             Comparison::Subscripts => RowKind::Equal,
             Comparison::EqualLevels => RowKind::Equal,
             Comparison::LessLevels => RowKind::AtLeast,
+            Comparison::GreaterLevels => RowKind::AtLeast,
         }
     }
 }
@@ -52,6 +54,7 @@ fn push_floors(
         Comparison::Subscripts => push_zeros(row, floors),
         Comparison::EqualLevels => push_signed(row, negative, value.floors()),
         Comparison::LessLevels => push_signed(row, negative, value.floors()),
+        Comparison::GreaterLevels => push_signed(row, negative, value.floors()),
     }
 }
 
@@ -63,19 +66,39 @@ fn front_columns(
     a: &Affine,
     b: &Affine,
 ) -> Result<DenseRow, NoMemory>
-    ensures { IfOk result (λ row. row ≡ scale (factor_of (is_strict comparison)) a.now.iterators ++ scale (factor_of (not (is_strict comparison))) b.now.iterators
-        ++ zeros w.now.source_part ++ zeros w.now.target_part ++ floor_columns comparison w.now.source_floors (factor_of (is_strict comparison)) a.now
-        ++ floor_columns comparison w.now.target_floors (factor_of (not (is_strict comparison))) b.now) }
+    ensures { IfOk result (λ row. row ≡ scale (factor_of (is_turned comparison)) a.now.iterators ++ scale (factor_of (not (is_turned comparison))) b.now.iterators
+        ++ zeros w.now.source_part ++ zeros w.now.target_part ++ floor_columns comparison w.now.source_floors (factor_of (is_turned comparison)) a.now
+        ++ floor_columns comparison w.now.target_floors (factor_of (not (is_turned comparison))) b.now) }
 {
-    let strict = comparison.strict();
+    let turned = comparison.turned();
     let mut row = DenseRow::new(alloc);
-    push_signed(&mut row, strict, a.iterators())?;
-    push_signed(&mut row, !strict, b.iterators())?;
+    push_signed(&mut row, turned, a.iterators())?;
+    push_signed(&mut row, !turned, b.iterators())?;
     push_zeros(&mut row, w.source_part)?;
     push_zeros(&mut row, w.target_part)?;
-    push_floors(&mut row, comparison, w.source_floors, strict, a)?;
-    push_floors(&mut row, comparison, w.target_floors, !strict, b)?;
+    push_floors(&mut row, comparison, w.source_floors, turned, a)?;
+    push_floors(&mut row, comparison, w.target_floors, !turned, b)?;
     Ok(row)
+}
+
+/// Appends the constant of the row that compares two values with these constants. Overflow comes
+/// exactly where the absolute values of its summands sum above 2^127 - 1.
+fn push_constant(
+    row: &mut DenseRow,
+    comparison: Comparison,
+    a: Coeff,
+    b: Coeff,
+) -> Result<(), RowFail>
+    ensures row { OnOk result (row.new ≡ row.old ++ constant_for comparison a b ∷ []) }
+    ensures light { OnOk result (constant_weight comparison a b < 2 ^ 127) }
+    ensures heavy { IfErr result (λ fail. fail ≡ RowFail.Overflow → 2 ^ 127 ≤ constant_weight comparison a b) }
+{
+    match comparison {
+        Comparison::Subscripts => push_constant_difference(row, false, a, b),
+        Comparison::EqualLevels => push_constant_difference(row, false, a, b),
+        Comparison::LessLevels => push_constant_difference(row, true, a, b),
+        Comparison::GreaterLevels => push_constant_difference(row, true, b, a),
+    }
 }
 
 /// The row that compares two values. Overflow comes exactly where some entry has summands whose
@@ -92,13 +115,13 @@ fn comparing_row(
     ensures light { OnOk result (weight_for comparison a.now b.now < 2 ^ 127) }
     ensures heavy { IfErr result (λ fail. fail ≡ RowFail.Overflow → 2 ^ 127 ≤ weight_for comparison a.now b.now) }
 {
-    let strict = comparison.strict();
+    let turned = comparison.turned();
     match front_columns(alloc, comparison, w, a, b) {
         Err(NoMemory) => Err(RowFail::Memory),
         Ok(row) => {
             let mut row = row;
-            push_differences(&mut row, strict, a.parameters(), b.parameters())?;
-            push_constant_difference(&mut row, strict, a.constant(), b.constant())?;
+            push_differences(&mut row, turned, a.parameters(), b.parameters())?;
+            push_constant(&mut row, comparison, a.constant(), b.constant())?;
             Ok(row)
         }
     }

@@ -2,18 +2,18 @@
 //! instances lies in one exactly where it conflicts.
 #![tactic(auto)]
 
-mod building;
+pub mod building;
 mod comparing;
 mod deps;
 mod entries;
 pub mod laws;
-mod level_rows;
-mod level_tests;
-mod lookups;
-mod pieces;
+pub mod level_rows;
+pub mod level_tests;
+pub mod lookups;
+pub mod pieces;
 mod placing;
 mod systems;
-mod widths;
+pub mod widths;
 
 pub use deps::{Dep, DepKind};
 pub use systems::system;

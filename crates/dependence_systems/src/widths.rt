@@ -36,4 +36,6 @@ pub enum Comparison {
     EqualLevels,
     /// The source's level is less than the target's.
     LessLevels,
+    /// The source's level is greater than the target's.
+    GreaterLevels,
 }
