@@ -17,6 +17,7 @@ pub mod StatementPieces
 pub mod ReadBacks
 pub mod Counts
 pub mod RowRanges
+pub mod OutsideIn
 mod Checks
 mod ScopChecks
 mod RefusalChecks
