@@ -21,3 +21,4 @@ pub mod OutsideIn
 mod Checks
 mod ScopChecks
 mod RefusalChecks
+mod NameChecks

@@ -9,3 +9,4 @@ pub mod Refusals
 pub mod ReadBack
 pub mod Counts
 pub mod RowRanges
+pub mod Names
