@@ -58,7 +58,7 @@ heavy_leaf P number xs k x fail l is h =
     heavier (counted P number (get_or xs k x)) (most_under P number xs) fail (counted_below P number xs k x l) (subst (λ t. IsHeavy (counted P number t) fail) is h)
 
 -- what holds of all statements under P holds of the leaf at hand
-holds_at : (P : List ℕ) (Holds : Statement → Type 0) (xs : Draft) (k : ℕ) (d : Leaf) → k < length xs → AllUnder P Holds xs
+pub holds_at : (P : List ℕ) (Holds : Statement → Type 0) (xs : Draft) (k : ℕ) (d : Leaf) → k < length xs → AllUnder P Holds xs
     → is_under P (get_or xs k d).beta ≡ true → Holds (get_or xs k d).statement
 holds_at P Holds [] k d l all u = absurd (omega arith)
 holds_at P Holds (x ∷ xs) zero d l all u = all.0 u

@@ -8,3 +8,6 @@ pub mod Joins
 pub mod Changeables
 pub mod DraftMaps
 pub mod Cuts
+pub mod VectorMaps
+pub mod Halves
+pub mod SplitFacts

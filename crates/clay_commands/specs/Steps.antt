@@ -1,5 +1,5 @@
 -- What the edits of leaves ask and answer, statement by statement.
-use Rattle.std.specs.Prelude.{◌≡◌, ◌≤◌, ◌^◌, ℤ, pos, int_le, ℕ, Bool, true, false, if◌then◌else◌, Option, None, List, [], ◌∷◌, length, map}
+use Rattle.std.specs.Prelude.{◌≡◌, ◌≤◌, ◌^◌, ◌+◌, ℤ, pos, negsuc, neg_ℤ, ◌+ℤ◌, int_le, ℕ, Bool, true, false, if◌then◌else◌, Option, None, Result, Ok, List, [], ◌∷◌, length, map, insert, slice_set}
 use Rattle.suite_base.specs.declared.refusals.Refusal.{Refusal}
 use Rattle.suite_base.specs.declared.refusals.Refusal.TheVariants as refusal
 use Rattle.suite_base.specs.declared.refusals.Where.TheVariants as count
@@ -9,6 +9,7 @@ use Rattle.scop_core.specs.declared.affines.Affine.{Affine}
 use Rattle.scop_core.specs.declared.statements.Statement.{Statement}
 use Rattle.scop_core.specs.AffineSums.{HaveOneSize}
 use Rattle.scop_core.specs.Assembly.{or_else}
+use Rattle.beta_tree.specs.Edits.{same_vector}
 use Rattle.beta_tree.specs.declared.refusals.BetaFail.{BetaFail}
 use Rattle.beta_tree.specs.declared.refusals.BetaFail.TheVariants as beta
 use Rattle.clay_script.specs.declared.commands.Command.{Command}
@@ -16,8 +17,9 @@ use Rattle.clay_script.specs.declared.commands.Command.TheVariants.{Fission, Fus
 use Rattle.clay_commands.specs.declared.leaves.Leaf.{Leaf}
 use Rattle.clay_commands.specs.declared.edit_fails.EditFail.{EditFail}
 use Rattle.clay_commands.specs.declared.edit_fails.EditFail.TheVariants.{Memory, Heavy}
-use Rattle.clay_commands.specs.Arguments.{natural, place}
-use Rattle.clay_commands.specs.Drafts.{Draft, is_under, form_at, forms_after, scheduled, with_beta}
+use Rattle.beta_tree.specs.Answers.{fission_answer, fuse_answer, reorder_answer}
+use Rattle.clay_commands.specs.Arguments.{natural, order_in, place}
+use Rattle.clay_commands.specs.Drafts.{Draft, is_under, form_at, forms_after, scheduled, restricted, with_beta}
 use Rattle.clay_commands.specs.Refusals.{has_level, condition_under, limit_of, overflow_of}
 
 -- the forms of level k
@@ -92,10 +94,46 @@ IsCut (Stripmine p j size) k = j ≡ k
 IsCut (Tile p j size t) k = j ≡ k
 IsCut other k = ⊥
 
+-- the command edits vectors alone
+abbrev pub IsVectorCommand : Command → Type 0
+IsVectorCommand (Fission p c) = Unit {0}
+IsVectorCommand (Fuse p) = Unit {0}
+IsVectorCommand (Reorder p order) = Unit {0}
+IsVectorCommand other = ⊥
+
+-- what such a command answers of the vectors V
+abbrev pub vector_answer : Command → List ℕ → List (List ℕ) → Result (List (List ℕ)) BetaFail
+vector_answer (Fission p c) P V = fission_answer P (natural c) V
+vector_answer (Fuse p) P V = fuse_answer P V
+vector_answer (Reorder p order) P V = reorder_answer P (order_in order) V
+vector_answer other P V = Ok V
+
 -- the command is iss of P
 abbrev pub IsSplit : Command → List ℕ → Type 0
 IsSplit (Iss p xs ns c) P = P ≡ map natural p
 IsSplit other P = ⊥
+
+-- what a split keeps in the leaf, and the new leaf for the rest, whose vector comes later
+abbrev pub first_half : List ℤ → List ℤ → ℤ → Leaf → Leaf
+first_half xs ns c leaf = record leaf { statement = restricted xs ns c leaf.statement }
+
+abbrev pub second_half : List ℤ → List ℤ → ℤ → Leaf → Leaf
+second_half xs ns c leaf =
+    record { beta = []; statement = restricted (map neg_ℤ xs) (map neg_ℤ ns) (neg_ℤ c +ℤ negsuc 0) leaf.statement; original = leaf.original }
+
+-- the place, from 0, of the leaf whose vector is P
+abbrev pub place_in : List ℕ → Draft → ℕ
+place_in P [] = 0
+place_in P (leaf ∷ D) = if same_vector leaf.beta P then 0 else place_in P D + 1
+
+-- the leaf at place j in two halves
+abbrev pub split_at : ℕ → List ℤ → List ℤ → ℤ → Leaf → Draft → Draft
+split_at j xs ns c leaf D = insert (slice_set D j (first_half xs ns c leaf)) (j + 1) (second_half xs ns c leaf)
+
+-- the command is iss of P with these arguments
+abbrev pub IsSplitBy : Command → List ℤ → List ℤ → ℤ → Type 0
+IsSplitBy (Iss p xs ns c) ys ms d = (xs ≡ ys) × (ns ≡ ms) × (c ≡ d)
+IsSplitBy other ys ms d = ⊥
 
 -- the failure of command number i by an operation on the vectors
 abbrev pub fail_of : ℕ → BetaFail → Fail
