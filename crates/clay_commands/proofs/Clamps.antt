@@ -92,7 +92,7 @@ large_order P order V t h none =
           ∙ ap (λ b. reorder_answer P (if b then map natural order else []) V) (sym s)
     ]
 
-fit_natural : (order : List ℤ) → all_fit order ≡ true → are_natural order ≡ true
+pub fit_natural : (order : List ℤ) → all_fit order ≡ true → are_natural order ≡ true
 fit_natural [] h = refl
 fit_natural (pos n ∷ order) h = fit_natural order (and_right (nat_lt n (2 ^ 32)) (all_fit order) h)
 fit_natural (negsuc n ∷ order) h = absurd (cc)

@@ -114,16 +114,16 @@ plain_forms (Stripmine p k s) is = absurd is
 plain_forms (Tile p k s t) is = absurd is
 plain_forms (Iss p xs ns c) is = absurd is
 
-pub plain_stepped : (parameters i : ℕ) (command : Command) (P : List ℕ) (D E : Draft) → IsPlainCommand command → condition_under parameters i command P D ≡ None
-    → P ≡ prefix_in command → most_under P (statement_weight command) D < 2 ^ 127 → E ≡ map (changed command P) D → IsStep parameters i command D E (betas_of D)
-plain_stepped parameters i command P D E is c e w made =
+pub plain_stepped : (parameters i : ℕ) (command : Command) (P : List ℕ) (D E : Draft) (V : List (List ℕ)) → IsPlainCommand command → condition_under parameters i command P D ≡ None
+    → P ≡ prefix_in command → most_under P (statement_weight command) D < 2 ^ 127 → E ≡ map (changed command P) D → V ≡ betas_of D → IsStep parameters i command D E V
+plain_stepped parameters i command P D E V is c e w made v =
     let own : E ≡ map (changed command (prefix_in command)) D = made ∙ ap (λ Q. map (changed command Q) D) e in
     let none : condition_under parameters i command (prefix_in command) D ≡ None = subst (λ Q. condition_under parameters i command Q D ≡ None) e c in
     let weight : most_under (prefix_in command) (statement_weight command) D < 2 ^ 127 = subst (λ Q. most_under Q (statement_weight command) D < 2 ^ 127) e w in
     record {
       unrefused = unrefused_command parameters i command (prefix_in command) D none (plain_limit i command D is) refl weight;
       draft = own ∙ sym (plain_draft command D is);
-      vectors = sym (ap betas_of own ∙ changed_betas command (prefix_in command) D);
+      vectors = v ∙ sym (ap betas_of own ∙ changed_betas command (prefix_in command) D);
     }
 
 pub plain_cause : (parameters i : ℕ) (command : Command) (P : List ℕ) (D : Draft) (fail : EditFail) → IsPlainCommand command → condition_under parameters i command P D ≡ None

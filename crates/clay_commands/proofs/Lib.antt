@@ -11,3 +11,4 @@ pub mod Cuts
 pub mod VectorMaps
 pub mod Halves
 pub mod SplitFacts
+pub mod Prefixes

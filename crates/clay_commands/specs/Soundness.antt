@@ -7,6 +7,7 @@ use Rattle.clay_script.specs.declared.commands.Command.{Command}
 use Rattle.clay_commands.specs.declared.leaves.Leaf.{Leaf}
 use Rattle.clay_commands.specs.Arguments.{prefix_in}
 use Rattle.clay_commands.specs.Drafts.{Draft, betas_of, draft_after}
+use Rattle.clay_commands.specs.Refusals.{refusal_at}
 use Rattle.clay_commands.specs.Steps.{refusal_under}
 use Rattle.clay_commands.specs.Afters.{closed_leaf}
 
@@ -24,5 +25,11 @@ pub record IsSound (parameters : ℕ) (D : Draft) : Type 0 where
 -- command number i, whose prefix has statements, is not refused, and makes of the leaves D the leaves E, which have the vectors V
 pub record IsStep (parameters i : ℕ) (command : Command) (D E : Draft) (V : List (List ℕ)) : Type 0 where
   pub unrefused : refusal_under parameters i command (prefix_in command) D ≡ None
+  pub draft : E ≡ draft_after command D
+  pub vectors : V ≡ betas_of E
+
+-- the same of any command number i
+pub record IsCommandStep (parameters i : ℕ) (command : Command) (D E : Draft) (V : List (List ℕ)) : Type 0 where
+  pub unrefused : refusal_at parameters i command D ≡ None
   pub draft : E ≡ draft_after command D
   pub vectors : V ≡ betas_of E

@@ -3,6 +3,7 @@
 
 mod arguments;
 mod changes;
+mod command_steps;
 mod conditions;
 mod edit_fails;
 mod edited;

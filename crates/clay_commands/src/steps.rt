@@ -32,18 +32,20 @@ fn edit_fail(i: u32, fail: EditFail) -> Fail
 }
 
 /// Interchange, skew, shift or reverse, as command number `i`.
-fn plain_step(
+pub fn plain_step(
     alloc: Global,
     parameters: usize,
     i: u32,
     command: &Command,
     prefix: &[u32],
+    betas: &Betas,
     leaves: &mut Vec<Leaf>,
 ) -> Result<(), Fail>
     requires plain { IsPlainCommand command.now }
     requires prefix { prefix.now ≡ prefix_in command.now }
     requires sound { IsSound parameters leaves.old.items }
-    ensures ok { OnOk result (IsStep parameters i command.now leaves.old.items leaves.new.items (betas_of leaves.old.items)) }
+    requires vectors { betas.now ≡ betas_of leaves.old.items }
+    ensures ok { OnOk result (IsStep parameters i command.now leaves.old.items leaves.new.items betas.now) }
     ensures cause { IfErr result (HasCause (refusal_under parameters i command.now prefix.now leaves.old.items)) }
 {
     let condition = level_condition(parameters, i, command, prefix, leaves.as_slice());
@@ -57,7 +59,7 @@ fn plain_step(
 }
 
 /// Stripmine or tile of level `k`, as command number `i`.
-fn strip_step(
+pub fn strip_step(
     alloc: Global,
     parameters: usize,
     i: u32,
@@ -114,7 +116,7 @@ fn edit_vectors(
 }
 
 /// Fission, fuse or reorder, as command number `i`.
-fn vector_step(
+pub fn vector_step(
     alloc: Global,
     parameters: usize,
     i: u32,

@@ -17,5 +17,5 @@ returns-in-Ok-clause-ok c =
     let none : condition_under c.args.parameters c.args.i c.args.command.now c.args.prefix.now c.args.leaves.now.items ≡ None =
     sym (ap (λ d. condition_under c.args.parameters c.args.i c.args.command.now c.args.prefix.now d) c.as_slice.ensures.value)
     ∙ sym c.level_condition-condition.ensures ∙ c.in_default.is in
-    plain_stepped c.args.parameters c.args.i c.args.command.now c.args.prefix.now c.args.leaves.now.items c.change_all.new.leaves.items c.requires.plain none c.requires.prefix
-    c.in-Ok.ensures.light c.in-Ok.ensures.ok
+    plain_stepped c.args.parameters c.args.i c.args.command.now c.args.prefix.now c.args.leaves.now.items c.change_all.new.leaves.items c.args.betas.now c.requires.plain none c.requires.prefix
+    c.in-Ok.ensures.light c.in-Ok.ensures.ok c.requires.vectors
