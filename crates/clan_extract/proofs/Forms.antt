@@ -1,5 +1,5 @@
 -- The form of an affine expression has the expression's value.
-use Rattle.std.proofs.Common.{◌≡◌, ◌⊎◌, inl, inr, ℕ, zero, suc, List, [], ◌∷◌, ◌++◌, length, map, Bool, true, false, cond, not, ◌&&◌, ◌||◌, refl, sym, ◌∙◌, ap, arith, ℤ, pos, negsuc, neg_ℤ, ◌+ℤ◌, ◌-ℤ◌, ◌*ℤ◌}
+use Rattle.std.proofs.Common.{◌≡◌, ℕ, zero, suc, List, [], ◌∷◌, ◌++◌, length, map, Bool, true, false, cond, not, ◌&&◌, ◌||◌, refl, sym, ◌∙◌, ap, arith, ℤ, pos, negsuc, neg_ℤ, ◌+ℤ◌, ◌-ℤ◌, ◌*ℤ◌}
 use Rattle.std.specs.Prelude.{bytes_eq}
 use Rattle.std.proofs.lemmas.Int.{ints}
 use Rattle.row_core.specs.Rows.{dot}
@@ -15,10 +15,6 @@ pub both_true : (r s : Bool) → (r && s) ≡ true → (r ≡ true) × (s ≡ tr
 both_true true true h = (refl, refl)
 both_true true false h = absurd cc
 both_true false s h = absurd cc
-
-pub bool_tells : (b : Bool) → (b ≡ true) ⊎ (b ≡ false)
-bool_tells true = inl refl
-bool_tells false = inr refl
 
 -- the names and the values of loops that are running
 abbrev pub names : List Binding → List (List ℕ)

@@ -1,5 +1,5 @@
 -- Roles of names, as they are worked out by hand. Places are numbers of bytes.
-use Rattle.std.proofs.Common.{◌≡◌, refl, List, [], ◌∷◌, ◌++◌, ℕ, Option, Some, None}
+use Rattle.std.proofs.Common.{◌≡◌, refl, List, [], ◌∷◌, ℕ, Some, None}
 use Rattle.std.specs.Prelude.{codes, true, false}
 use Rattle.clan_extract.specs.Names.{Role, Function, ArrayOf, Iterator, Parameter, Occurrence, clash, parameters_in, arrays_in}
 

@@ -1,5 +1,5 @@
 -- The roles of names, over all their occurrences in the order of the text: parameters, arrays, and the first clash.
-use Rattle.std.specs.Prelude.{ℕ, List, [], ◌∷◌, ◌++◌, Bool, true, false, cond, not, ◌&&◌, ◌||◌, nat_eq, bytes_eq, Option, None, Some}
+use Rattle.std.specs.Prelude.{ℕ, List, [], ◌∷◌, Bool, true, false, cond, not, ◌&&◌, ◌||◌, nat_eq, bytes_eq, Option, None, Some}
 use Rattle.clan_extract.specs.Regions.{first_occurrences}
 
 -- the role of a name: before a bracket of arguments, with so many subscripts, of a loop in its scope, or of a value from outside
