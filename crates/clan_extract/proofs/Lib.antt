@@ -18,6 +18,7 @@ pub mod ReadBacks
 pub mod Counts
 pub mod RowRanges
 pub mod OutsideIn
+pub mod NameRoles
 mod Checks
 mod ScopChecks
 mod RefusalChecks

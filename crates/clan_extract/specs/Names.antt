@@ -1,6 +1,7 @@
 -- The roles of names, over all their occurrences in the order of the text: parameters, arrays, and the first clash.
-use Rattle.std.specs.Prelude.{ℕ, List, [], ◌∷◌, Bool, true, false, cond, not, ◌&&◌, ◌||◌, nat_eq, bytes_eq, Option, None, Some}
-use Rattle.clan_extract.specs.Regions.{first_occurrences}
+use Rattle.std.specs.Prelude.{◌≡◌, ℕ, List, [], ◌∷◌, Bool, true, false, cond, not, ◌&&◌, ◌||◌, nat_eq, bytes_eq, Option, None, Some}
+use Rattle.scop_core.specs.Sequences.{In}
+use Rattle.clan_extract.specs.Regions.{is_among, first_occurrences}
 
 -- the role of a name: before a bracket of arguments, with so many subscripts, of a loop in its scope, or of a value from outside
 pub data Role : Type 0 where
@@ -87,3 +88,12 @@ parameters_in all = first_occurrences (names_with is_parameter all all)
 
 abbrev pub arrays_in : List Occurrence → List (List ℕ)
 arrays_in all = first_occurrences (names_with is_array_role all all)
+
+-- where nothing clashes, all occurrences of a name have one role
+abbrev pub NamesHaveOneRole : Type 0
+NamesHaveOneRole = (all : List Occurrence) → clash all ≡ None → (o p : Occurrence) → In o all → In p all → o.name ≡ p.name → role_of all o ≡ role_of all p
+
+-- the parameters and the arrays are the names of such occurrences, each once
+abbrev pub NamesAreListed : Type 0
+NamesAreListed = (all : List Occurrence) (o : Occurrence) → In o all
+    → (is_parameter (role_of all o) ≡ true → is_among o.name (parameters_in all) ≡ true) × (is_array_role (role_of all o) ≡ true → is_among o.name (arrays_in all) ≡ true)

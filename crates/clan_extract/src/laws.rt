@@ -2,6 +2,7 @@
 
 ghost use Rattle.clan_extract.specs.Execution.{LoopsRunAsLongAs};
 ghost use Rattle.clan_extract.specs.Counts.{PartsAreCounted};
+ghost use Rattle.clan_extract.specs.Names.{NamesHaveOneRole, NamesAreListed};
 ghost use Rattle.clan_extract.specs.ReadBack.{ScopReadsBack};
 ghost use Rattle.clan_extract.specs.RowRanges.{RowsFitOnce};
 ghost use Rattle.clan_extract.specs.Scops.{ScopMeansItsRegion, ScopHasItsNames};
@@ -53,4 +54,15 @@ pub fn parts_are_counted()
 /// are, asked once.
 pub fn rows_fit_once()
     ensures { RowsFitOnce }
+{}
+
+/// Where no name clashes, all occurrences of a name have one role.
+pub fn names_have_one_role()
+    ensures { NamesHaveOneRole }
+{}
+
+/// Each name with the role of a parameter is among the parameters, and each with the role of an array
+/// among the arrays.
+pub fn names_are_listed()
+    ensures { NamesAreListed }
 {}
