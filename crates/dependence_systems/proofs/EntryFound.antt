@@ -4,9 +4,9 @@ use Rattle.std.specs.List.{flat_map, range_with_len}
 use Rattle.relation_core.specs.Systems.{System}
 use Rattle.scop_core.specs.declared.accesses.Access.{Access}
 use Rattle.scop_core.specs.Sequences.{In}
-use Rattle.dependence_systems.specs.declared.deps.Dep.{Dep}
-use Rattle.dependence_systems.specs.declared.deps.DepKind.{DepKind}
-use Rattle.dependence_systems.specs.declared.deps.Ends.{Ends}
+use Rattle.dependence_systems.specs.declared.dependences.Dep.{Dep}
+use Rattle.dependence_systems.specs.declared.dependences.DepKind.{DepKind}
+use Rattle.dependence_systems.specs.declared.dependences.Ends.{Ends}
 use Rattle.scop_core.specs.LevelOrder.{IsLevel}
 use Rattle.scop_core.proofs.LevelOrder.{levels_are_listed}
 use Rattle.dependence_systems.specs.Sides.{Side, member}

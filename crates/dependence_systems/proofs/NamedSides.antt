@@ -1,5 +1,5 @@
 -- What an entry of the list of two SCoPs names is there, and its system can be built.
-use Rattle.std.proofs.Common.{◌≡◌, ℕ, zero, suc, ◌+◌, ◌≤◌, List, [], ◌∷◌, length, slice_get, All, Option, Some, None, IsSomeAnd, IsSome, is_some, refl, ap, sym, ◌∙◌, subst, arith}
+use Rattle.std.proofs.Common.{◌≡◌, ℕ, zero, suc, ◌+◌, ◌^◌, ◌<◌, ◌≤◌, List, [], ◌∷◌, length, slice_get, All, Option, Some, None, IsSomeAnd, IsSome, is_some, refl, ap, sym, ◌∙◌, subst, arith}
 use Rattle.std.proofs.lemmas.List.Elements.{All-head, All-tail, All-cons, All-nil}
 use Rattle.relation_core.specs.Systems.{System, HasLimits}
 use Rattle.scop_core.specs.declared.accesses.Access.{Access}
@@ -13,13 +13,13 @@ use Rattle.scop_core.specs.Shapes.{IsShapedStatement}
 use Rattle.scop_core.specs.Validity.{IsValid}
 use Rattle.scop_core.proofs.KeptLimits.{keeps_limits}
 use Rattle.scop_core.proofs.ScopShapes.{scops_are_formed, scops_are_shaped}
-use Rattle.dependence_systems.specs.declared.deps.Dep.{Dep}
+use Rattle.dependence_systems.specs.declared.dependences.Dep.{Dep}
 use Rattle.dependence_systems.specs.Sides.{Side, member, schedule_in, under, under_originals, sides, member_or, no_side}
-use Rattle.dependence_systems.specs.Entries.{entries}
+use Rattle.dependence_systems.specs.Entries.{side_at, entries}
 use Rattle.dependence_systems.specs.Fits.{SideFits, PairingFits}
 use Rattle.dependence_systems.specs.Originals.{IsPiece, ArePieces, HasOriginals}
 use Rattle.dependence_systems.specs.Systems.{Pairing, pairing, pairing_of, no_part, no_access, system_shape}
-use Rattle.dependence_systems.specs.Lookups.{HasSide, IsReady}
+use Rattle.dependence_systems.specs.Lookups.{HasSide, IsReady, IsCounted}
 use Rattle.dependence_systems.proofs.EntryFound.{IsEntry, listed_entry}
 use Rattle.dependence_systems.proofs.Pairs.{all_member, named, is_named, named_fits}
 use Rattle.dependence_systems.proofs.ScopPairs.{Matches, originals_match, originals_fit}
@@ -208,3 +208,63 @@ found_by old now originals k access part j xs zs s original ys a ps p ex s_is j_
   access_is = ap (λ z. member z access) (sym ey) ∙ a_is;
   part_is = ap (λ z. member z part) (sym ep) ∙ p_is;
 }
+
+-- the side of a number, from look-ups alone
+side_is : (old now : List Statement) (originals : List ℕ) → ArePieces old now originals → (k j : ℕ) (s original : Statement)
+    → member now k ≡ Some s → member originals k ≡ Some j → member old j ≡ Some original → member (under_originals old now originals) k ≡ Some (under s original.schedule)
+side_is old now originals h k j s original se je oe =
+    (originals_match old now originals h).into k s se
+    ∙ ap (λ i. Some (under s (schedule_in (member old (member_or 0 i))))) je ∙ ap (λ o. Some (under s (schedule_in o))) oe
+
+pub side_found : (old now : ScopData) (originals : List ℕ) → HasOriginals old now originals → (k j : ℕ) (xs zs : List Statement) (s original : Statement)
+    → xs ≡ now.statements → member xs k ≡ Some s → member originals k ≡ Some j → zs ≡ old.statements → member zs j ≡ Some original
+    → side_at (sides old now originals) k ≡ (k, under s original.schedule)
+side_found old now originals has k j xs zs s original ex se je ez oe =
+    ap (λ found. (k, member_or no_side found))
+    (side_is old.statements now.statements originals has.pieces k j s original (ap (λ z. member z k) (sym ex) ∙ se) je (ap (λ z. member z j) (sym ez) ∙ oe))
+
+-- each piece has an original, whatever its number
+some_member : {X : Type 0} (found : Option X) → IsSome found → (x : X) × (found ≡ Some x)
+some_member None h = absurd (cc)
+some_member (Some x) h = (x, refl)
+
+original_of_some : (old now : ScopData) (originals : List ℕ) (k : ℕ) → HasOriginals old now originals → IsSome (member now.statements k)
+    → IsSomeAnd (member originals k) (λ j. IsSome (member old.statements j))
+original_of_some old now originals k has some =
+    let s = some_member (member now.statements k) some in
+    piece_is_there old.statements s.0 (member originals k) (piece_member old.statements now.statements originals has.pieces k s.0 s.1)
+
+pub number_of_some : (old now : ScopData) (originals : List ℕ) (k : ℕ) → HasOriginals old now originals → IsSome (member now.statements k) → IsSome (member originals k)
+number_of_some old now originals k has some = some_of (λ j. IsSome (member old.statements j)) (member originals k) (original_of_some old now originals k has some)
+
+pub old_of_some : (old now : ScopData) (originals : List ℕ) (k j : ℕ) (xs : List Statement) → HasOriginals old now originals → IsSome (member now.statements k)
+    → member originals k ≡ Some j → xs ≡ old.statements → IsSome (member xs j)
+old_of_some old now originals k j xs has some je ex =
+    subst (λ z. IsSome (member z j)) (sym ex) (and_some (λ i. IsSome (member old.statements i)) (member originals k) j je (original_of_some old now originals k has some))
+
+-- what was found can be counted
+pub is_counted : (old now : ScopData) → IsValid old → IsValid now → (k j : ℕ) (xs zs : List Statement) (s original : Statement)
+    → xs ≡ now.statements → member xs k ≡ Some s → zs ≡ old.statements → member zs j ≡ Some original → IsCounted s original.schedule
+is_counted old now valid_old valid_now k j xs zs s original ex se ez oe =
+    let here = all_member StatementKeepsLimits now.statements k s (ap (λ z. member z k) (sym ex) ∙ se) (keeps_limits now valid_now).each in
+    let there = all_member StatementKeepsLimits old.statements j original (ap (λ z. member z j) (sym ez) ∙ oe) (keeps_limits old valid_old).each in
+    let shaped = all_member (IsShapedStatement old.context.shape.parameters) old.statements j original (ap (λ z. member z j) (sym ez) ∙ oe) (scops_are_shaped old valid_old).statements in
+    record { parts = omega (arith, here.parts); accesses = omega (arith, here.accesses); betas = omega (arith, there.levels, shaped.schedule.relation.betas) }
+
+-- a number from 1 to the count is that of a statement, and fits 32 bits
+pub number_counts : (now : ScopData) → IsValid now → length now.statements < 2 ^ 32
+number_counts now valid = omega (arith, (keeps_limits now valid).statements)
+
+some_slice : {X : Type 0} (xs : List X) (k : ℕ) → k < length xs → IsSome (slice_get xs k)
+some_slice [] k h = absurd (omega arith)
+some_slice (x ∷ xs) zero h = refl
+some_slice (x ∷ xs) (suc k) h = some_slice xs k (omega arith)
+
+pub member_below : {X : Type 0} (xs : List X) (k n : ℕ) → k < length xs → n ≡ k + 1 → IsSome (member xs n)
+member_below xs k n h e = subst (λ i. IsSome (member xs i)) (let number : suc k ≡ n = omega (arith, e) in number) (some_slice xs k h)
+
+-- as many sides as statements
+pub length_sides : (old now : List Statement) (originals : List ℕ) → ArePieces old now originals → length (under_originals old now originals) ≡ length now
+length_sides old [] originals h = refl
+length_sides old (s ∷ now) [] h = absurd h
+length_sides old (s ∷ now) (k ∷ originals) h = omega (arith, length_sides old now originals h.1)

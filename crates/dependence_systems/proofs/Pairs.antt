@@ -23,9 +23,9 @@ use Rattle.scop_core.specs.Printable.{IsContext, IsDomainPart}
 use Rattle.scop_core.specs.ReadBack.{IsSolvedSchedule, IsSolvedAccess}
 use Rattle.scop_core.proofs.SolvedShapes.{both}
 use Rattle.scop_core.proofs.LevelOrder.{schedules_order_at_a_level}
-use Rattle.dependence_systems.specs.declared.deps.Dep.{Dep}
-use Rattle.dependence_systems.specs.declared.deps.DepKind.{DepKind}
-use Rattle.dependence_systems.specs.declared.deps.DepKind.TheVariants.{Raw, War, Waw}
+use Rattle.dependence_systems.specs.declared.dependences.Dep.{Dep}
+use Rattle.dependence_systems.specs.declared.dependences.DepKind.{DepKind}
+use Rattle.dependence_systems.specs.declared.dependences.DepKind.TheVariants.{Raw, War, Waw}
 use Rattle.dependence_systems.specs.Sides.{Side, member, member_or, no_side}
 use Rattle.dependence_systems.specs.Entries.{kind_between, can_meet, entries}
 use Rattle.dependence_systems.specs.Systems.{Pairing, pairing_of, no_part, no_access, system_of, level_system}

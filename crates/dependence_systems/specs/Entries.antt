@@ -10,10 +10,10 @@ use Rattle.suite_base.specs.declared.refusals.Fail.TheVariants.{Memory, Refused}
 use Rattle.scop_core.specs.declared.accesses.AccessKind.{AccessKind}
 use Rattle.scop_core.specs.declared.accesses.AccessKind.TheVariants.{Read, Write, MayWrite}
 use Rattle.scop_core.specs.declared.accesses.Access.{Access}
-use Rattle.dependence_systems.specs.declared.deps.Dep.{Dep}
-use Rattle.dependence_systems.specs.declared.deps.DepKind.{DepKind}
-use Rattle.dependence_systems.specs.declared.deps.Ends.{Ends}
-use Rattle.dependence_systems.specs.declared.deps.DepKind.TheVariants.{Raw, War, Waw}
+use Rattle.dependence_systems.specs.declared.dependences.Dep.{Dep}
+use Rattle.dependence_systems.specs.declared.dependences.DepKind.{DepKind}
+use Rattle.dependence_systems.specs.declared.dependences.Ends.{Ends}
+use Rattle.dependence_systems.specs.declared.dependences.DepKind.TheVariants.{Raw, War, Waw}
 use Rattle.scop_core.specs.LevelOrder.{common_loops, is_textually_before}
 use Rattle.dependence_systems.specs.Sides.{Side, member, member_or, no_side}
 

@@ -1,6 +1,7 @@
 -- What an entry of the list names in two SCoPs.
-use Rattle.std.specs.Prelude.{ℕ, List, IsSomeAnd, IsSome}
+use Rattle.std.specs.Prelude.{ℕ, ◌<◌, ◌^◌, List, length, IsSomeAnd, IsSome}
 use Rattle.relation_core.specs.Systems.{HasLimits}
+use Rattle.scop_core.specs.declared.schedules.Schedule.{Schedule}
 use Rattle.scop_core.specs.declared.statements.Statement.{Statement}
 use Rattle.scop_core.specs.LevelOrder.{IsLevel}
 use Rattle.dependence_systems.specs.Sides.{member}
@@ -17,3 +18,9 @@ pub record IsReady (m : Pairing) (level : ℕ) : Type 0 where
   pub limits : HasLimits (system_shape m)
   pub fits : PairingFits m
   pub is_level : IsLevel m.source_schedule.betas m.target_schedule.betas level
+
+-- the parts, accesses and betas of a statement under a schedule can be counted in 32 bits
+pub record IsCounted (statement : Statement) (schedule : Schedule) : Type 0 where
+  pub parts : length statement.domain < 2 ^ 32
+  pub accesses : length statement.accesses < 2 ^ 32
+  pub betas : length schedule.betas < 2 ^ 32

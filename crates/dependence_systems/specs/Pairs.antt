@@ -7,7 +7,7 @@ use Rattle.scop_core.specs.Order.{Before}
 use Rattle.scop_core.specs.Memory.{Use, is_writing}
 use Rattle.scop_core.specs.Meaning.{Instance, stamp_of, use_at}
 use Rattle.scop_core.specs.Printable.{IsContext}
-use Rattle.dependence_systems.specs.declared.deps.Dep.{Dep}
+use Rattle.dependence_systems.specs.declared.dependences.Dep.{Dep}
 use Rattle.dependence_systems.specs.Sides.{Side, member}
 use Rattle.dependence_systems.specs.Entries.{entries}
 use Rattle.dependence_systems.specs.Systems.{system_of}

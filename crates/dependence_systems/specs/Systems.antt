@@ -10,7 +10,7 @@ use Rattle.scop_core.specs.declared.accesses.Access.{Access}
 use Rattle.scop_core.specs.declared.accesses.AccessKind.TheVariants.{Read}
 use Rattle.scop_core.specs.declared.schedules.Schedule.{Schedule}
 use Rattle.scop_core.specs.SolvedRows.{zeros, floor_part}
-use Rattle.dependence_systems.specs.declared.deps.Dep.{Dep}
+use Rattle.dependence_systems.specs.declared.dependences.Dep.{Dep}
 use Rattle.dependence_systems.specs.declared.widths.Widths.{Widths}
 use Rattle.dependence_systems.specs.declared.widths.Topic.{Topic}
 use Rattle.dependence_systems.specs.declared.widths.Topic.TheVariants.{Context, SourcePart, TargetPart, SourceFloors, TargetFloors}

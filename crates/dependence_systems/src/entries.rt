@@ -4,7 +4,7 @@ ghost use Rattle.std.specs.Prelude.{◌≡◌, ◌≤◌, ◌<◌, ◌^◌, ◌+
 ghost use Rattle.suite_base.specs.Limits.{max_systems};
 ghost use Rattle.dependence_systems.specs.Entries.{kind_between, can_meet, at_levels, at_target_parts, at_parts, entries_by, entries_from, entries_among, levels_upto, IsTooMany};
 
-use crate::deps::{Dep, DepKind, Ends};
+use crate::dependences::{Dep, DepKind, Ends};
 use scop_core::{Access, AccessKind};
 use suite_base::{Fail, List, MAX_SYSTEMS, NoMemory, Refusal, Which};
 
@@ -188,7 +188,7 @@ fn push_from(
 }
 
 /// Appends the entries of the accesses of two statements.
-fn push_among(
+pub fn push_among(
     list: &mut List<Dep>,
     ends: &Ends,
     firsts: &[Access],

@@ -4,16 +4,18 @@
 
 pub mod building;
 mod comparing;
-mod deps;
+mod dependences;
 mod entries;
 pub mod laws;
 pub mod level_rows;
 pub mod level_tests;
+mod listing;
 pub mod lookups;
 pub mod pieces;
 mod placing;
 mod systems;
 pub mod widths;
 
-pub use deps::{Dep, DepKind};
+pub use dependences::{Dep, DepKind};
+pub use listing::deps;
 pub use systems::system;

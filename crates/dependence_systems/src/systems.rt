@@ -9,7 +9,7 @@ ghost use Rattle.dependence_systems.specs.Sides.{member, sides};
 ghost use Rattle.dependence_systems.specs.Systems.{system_of, summand_weight};
 
 use crate::building::system_between;
-use crate::deps::Dep;
+use crate::dependences::Dep;
 use crate::lookups::{numbered, original_of};
 use relation_core::Part;
 use row_core::RowFail;
