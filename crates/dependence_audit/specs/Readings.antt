@@ -8,7 +8,7 @@ use Rattle.relation_core.specs.declared.part_rows.PartRow.{PartRow}
 use Rattle.relation_core.specs.declared.part_rows.RowKind.{RowKind}
 use Rattle.relation_core.specs.declared.part_rows.RowKind.TheVariants.{Equal, AtLeast}
 use Rattle.farkas_cert.specs.Texts.{certificate_read}
-use Rattle.dependence_systems.specs.declared.deps.Dep.{Dep}
+use Rattle.dependence_systems.specs.declared.dependences.Dep.{Dep}
 use Rattle.dependence_blocks.specs.Blocks.{entry_words}
 use Rattle.dependence_audit.specs.Contents.{same_words, says, row_numbers, header_numbers}
 

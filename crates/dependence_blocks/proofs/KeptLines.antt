@@ -23,9 +23,9 @@ use Rattle.scop_core.proofs.SolvedShapes.{both}
 use Rattle.scop_core.proofs.ReadBackLists.{and_true, false_if, other_number}
 use Rattle.suite_base.proofs.LineCuts.{bool_tells}
 use Rattle.std.proofs.lemmas.Slice.Eq.{bytes_eq-Decides}
-use Rattle.dependence_systems.specs.declared.deps.Dep.{Dep}
-use Rattle.dependence_systems.specs.declared.deps.DepKind.{DepKind}
-use Rattle.dependence_systems.specs.declared.deps.DepKind.TheVariants.{Raw, War, Waw}
+use Rattle.dependence_systems.specs.declared.dependences.Dep.{Dep}
+use Rattle.dependence_systems.specs.declared.dependences.DepKind.{DepKind}
+use Rattle.dependence_systems.specs.declared.dependences.DepKind.TheVariants.{Raw, War, Waw}
 use Rattle.dependence_blocks.specs.Blocks.{kind_word, entry_numbers, entry_words, verdict_word, head_line, verdict_lines, entry_lines}
 use Rattle.dependence_blocks.specs.KeptLines.{is_kept_line, HasRange}
 

@@ -7,9 +7,9 @@ use Rattle.relation_core.specs.Systems.{System}
 use Rattle.relation_core.specs.Layouts.{header_text, row_text}
 use Rattle.farkas_cert.specs.Texts.{certificate_line}
 use Rattle.scop_core.specs.declared.statements.Extension.{Extension}
-use Rattle.dependence_systems.specs.declared.deps.Dep.{Dep}
-use Rattle.dependence_systems.specs.declared.deps.DepKind.{DepKind}
-use Rattle.dependence_systems.specs.declared.deps.DepKind.TheVariants.{Raw, War, Waw}
+use Rattle.dependence_systems.specs.declared.dependences.Dep.{Dep}
+use Rattle.dependence_systems.specs.declared.dependences.DepKind.{DepKind}
+use Rattle.dependence_systems.specs.declared.dependences.DepKind.TheVariants.{Raw, War, Waw}
 use Rattle.dependence_systems.specs.Sides.{Side}
 use Rattle.dependence_systems.specs.Systems.{system_of}
 

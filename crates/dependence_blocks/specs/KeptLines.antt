@@ -1,7 +1,7 @@
 -- Lines that an extension can keep: a line without a newline and without `<` ends no extension.
 use Rattle.std.specs.Prelude.{ℕ, ◌<◌, ◌^◌, Bool, ◌&&◌, List}
 use Rattle.scop_core.specs.Printable.{has_no}
-use Rattle.dependence_systems.specs.declared.deps.Dep.{Dep}
+use Rattle.dependence_systems.specs.declared.dependences.Dep.{Dep}
 
 -- no newline and no `<`
 abbrev pub is_kept_line : List ℕ → Bool

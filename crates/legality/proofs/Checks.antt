@@ -1,6 +1,6 @@
 -- The violation systems of worked scripts.
 use Rattle.std.proofs.Common.{◌≡◌, refl, pos, negsuc, List, [], ◌∷◌, Some, slice_get}
-use Rattle.dependence_systems.specs.declared.deps.DepKind.TheVariants.{Raw, War, Waw}
+use Rattle.dependence_systems.specs.declared.dependences.DepKind.TheVariants.{Raw, War, Waw}
 use Rattle.clay_script.specs.declared.commands.Command.{Command}
 use Rattle.clay_script.specs.declared.commands.Command.TheVariants.{Fission, Fuse, Reorder, Interchange, Shift, Stripmine, Iss}
 use Rattle.legality.specs.Violations.{Edit, violations, violation_system, violation_weight}

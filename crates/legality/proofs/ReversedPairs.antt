@@ -14,7 +14,7 @@ use Rattle.scop_core.specs.ReadBack.{IsSolvedSchedule}
 use Rattle.scop_core.specs.Shapes.{IsShapedStatement}
 use Rattle.scop_core.proofs.LevelOrder.{schedules_order_at_a_level, levels_are_listed}
 use Rattle.scop_core.proofs.ScopShapes.{scops_are_formed, scops_are_shaped}
-use Rattle.dependence_systems.specs.declared.deps.Dep.{Dep}
+use Rattle.dependence_systems.specs.declared.dependences.Dep.{Dep}
 use Rattle.dependence_systems.specs.Sides.{Side, member, schedule_in, under, sides}
 use Rattle.dependence_systems.specs.Entries.{kind_between, can_meet}
 use Rattle.dependence_systems.specs.Systems.{Pairing, pairing_of, widths_of, member_or, no_side, no_part, no_access}

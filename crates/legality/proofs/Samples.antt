@@ -10,7 +10,7 @@ use Rattle.scop_core.specs.declared.accesses.AccessKind.TheVariants.{Read, Write
 use Rattle.scop_core.specs.declared.accesses.Access.{Access}
 use Rattle.scop_core.specs.declared.statements.Statement.{Statement}
 use Rattle.scop_core.specs.ScopData.{ScopData}
-use Rattle.dependence_systems.specs.declared.deps.DepKind.{DepKind}
+use Rattle.dependence_systems.specs.declared.dependences.DepKind.{DepKind}
 use Rattle.clay_script.specs.declared.commands.Command.{Command}
 use Rattle.clay_commands.specs.Afters.{after_script}
 use Rattle.legality.specs.Violations.{Edit, Violation}

@@ -6,7 +6,7 @@ use Rattle.elim_core.specs.Peaks.{Peak, peak}
 use Rattle.scop_core.specs.declared.schedules.Schedule.{Schedule}
 use Rattle.scop_core.specs.ScopData.{ScopData}
 use Rattle.scop_core.specs.LevelOrder.{levels_between}
-use Rattle.dependence_systems.specs.declared.deps.Dep.{Dep}
+use Rattle.dependence_systems.specs.declared.dependences.Dep.{Dep}
 use Rattle.dependence_systems.specs.Sides.{member, schedule_in, sides}
 use Rattle.dependence_systems.specs.Entries.{entries}
 use Rattle.dependence_systems.specs.Systems.{Pairing, pairing_of, widths_of, level_system, system_weight}
