@@ -1,0 +1,173 @@
+//! The decision of each system, and the block that it is printed to.
+
+ghost use Rattle.std.specs.Prelude.{◌≡◌, ◌<◌, ◌≤◌, ◌^◌, [], ◌∷◌, true, length, IfOk, IfErr, OnOk};
+ghost use Rattle.suite_base.specs.Limits.{max_systems, max_stage_rows};
+ghost use Rattle.scop_core.specs.Sequences.{In};
+ghost use Rattle.scop_core.specs.Printable.{are_kept_lines, is_kept, arrays_name};
+ghost use Rattle.scop_core.specs.Validity.{IsValid};
+ghost use Rattle.elim_core.specs.Peaks.{peak};
+ghost use Rattle.dependence_systems.specs.Sides.{own_sides};
+ghost use Rattle.dependence_systems.specs.Originals.{own_originals};
+ghost use Rattle.dependence_systems.specs.Entries.{entries};
+ghost use Rattle.dependence_systems.specs.Systems.{system_of, summand_weight};
+ghost use Rattle.dependence_blocks.specs.Blocks.{block_name};
+ghost use Rattle.candl_deps.specs.Decisions as spec;
+
+use crate::systems::{own_entries, own_pieces, own_system};
+use dependence_blocks::{block, print_count, print_entry};
+use dependence_systems::Dep;
+use elim_core::{ElimFail, Verdict, decide_by};
+use farkas_cert::Certificate;
+use relation_core::Part;
+use row_core::{RowFail, SparseRow};
+use scop_core::{Extension, Pieces, Scop};
+use std::alloc::Global;
+use suite_base::{Fail, List, Refusal, Text, Where};
+
+/// A system and its verdict: no certificate where it is kept, that is where it has a rational point.
+#[derive(Drop)]
+pub struct Decided {
+    pub system: Part,
+    pub certificate: Option<Certificate>,
+}
+
+/// The block of a SCoP's dependences, an extension that may take the place of an older one: the systems are
+/// decided in order, each is printed and let go.
+///
+/// `Limit(Systems, 0)` comes exactly where there are more than 65,536. `Overflow(System, k)` and
+/// `TooManyRows(k)` come only where the peak of system k, from 1, passes 2^127 - 1 or 16,384 rows and no earlier
+/// system was refused; `Overflow` always where the absolute values of an entry's summands in system k sum above
+/// 2^127 - 1 and no earlier system was refused.
+pub fn dependence_block(alloc: Global, scop: &Scop) -> Result<Extension, Fail>
+    ensures is { IfOk result (λ made. spec.IsBlock scop.now made) }
+    ensures kept { IfOk result (λ made. is_kept arrays_name made ≡ true) }
+    ensures cause { IfErr result (spec.IsCause scop.now) }
+{
+    let pieces = own_pieces(alloc, scop)?;
+    let list = own_entries(alloc, scop, &pieces)?;
+    let mut lines = List::new(alloc);
+    print_count(alloc, &mut lines, list.len())?;
+    print_decided(alloc, scop, &pieces, &list, &mut lines)?;
+    let made = block(alloc, lines)?;
+    Ok(made)
+}
+
+/// The SCoP with the block of its dependences as its last extension, in place of an older block. It refuses as
+/// `dependence_block` does.
+pub fn with_dependences(alloc: Global, scop: Scop) -> Result<Scop, Fail>
+    ensures ok { IfOk result (λ made. spec.WithDependences scop made) }
+    ensures valid { IsValid scop }
+    ensures cause { IfErr result (spec.IsCause scop) }
+{
+    scop_is_valid(&scop);
+    let made = dependence_block(alloc, &scop)?;
+    match scop.with_extension(made) {
+        Ok(scop) => Ok(scop),
+        Err(_) => Err(Fail::Memory),
+    }
+}
+
+// Every Scop is valid: a fact for contracts.
+fn scop_is_valid(scop: &Scop)
+    ensures { IsValid scop.now }
+{
+    let _count = scop.statement_count();
+}
+
+// Appends the lines of all entries, each with its verdict.
+fn print_decided(
+    alloc: Global,
+    scop: &Scop,
+    pieces: &Pieces,
+    list: &List<Dep>,
+    lines: &mut List<Text>,
+) -> Result<(), Fail>
+    requires own { pieces.now ≡ own_originals scop.now }
+    requires list { list.now ≡ entries (own_sides scop.now) }
+    requires few { length list.now ≤ max_systems }
+    requires kept { are_kept_lines block_name lines.old ≡ true }
+    ensures printed { OnOk result (spec.IsPrinted scop.now.context (own_sides scop.now) list.now lines.old lines.new) }
+    ensures kept { OnOk result (are_kept_lines block_name lines.new ≡ true) }
+    ensures cause { IfErr result (spec.IsCause scop.now) }
+{
+    let items = list.as_slice();
+    for k in 0..items.len() {
+        print_one(alloc, scop, pieces, &items[k], k as u32 + 1, lines)?;
+    }
+    Ok(())
+}
+
+// Decides an entry and appends its lines; `number` is that of its system.
+fn print_one(
+    alloc: Global,
+    scop: &Scop,
+    pieces: &Pieces,
+    entry: &Dep,
+    number: u32,
+    lines: &mut List<Text>,
+) -> Result<(), Fail>
+    requires own { pieces.now ≡ own_originals scop.now }
+    requires listed { In entry.now (entries (own_sides scop.now)) }
+    requires kept { are_kept_lines block_name lines.old ≡ true }
+    ensures printed { OnOk result (spec.IsPrinted scop.now.context (own_sides scop.now) (entry.now ∷ []) lines.old lines.new) }
+    ensures kept { OnOk result (are_kept_lines block_name lines.new ≡ true) }
+    ensures cause { IfErr result (spec.StopsOne scop.now.context (own_sides scop.now) entry.now number) }
+{
+    match decided_entry(alloc, scop, pieces, entry) {
+        Err(fail) => Err(refused(fail, number)),
+        Ok(decided) => {
+            print_entry(alloc, lines, entry, &decided.system, &decided.certificate)?;
+            Ok(())
+        }
+    }
+}
+
+// Builds and decides the system of an entry.
+fn decided_entry(
+    alloc: Global,
+    scop: &Scop,
+    pieces: &Pieces,
+    entry: &Dep,
+) -> Result<Decided, ElimFail>
+    requires own { pieces.now ≡ own_originals scop.now }
+    requires listed { In entry.now (entries (own_sides scop.now)) }
+    ensures decided { IfOk result (λ found. spec.IsDecided scop.now.context (own_sides scop.now) entry.now found.system found.certificate) }
+    ensures cause { IfErr result (spec.FailsOne scop.now.context (own_sides scop.now) entry.now) }
+{
+    match own_system(alloc, scop, pieces, entry) {
+        Err(RowFail::Memory) => Err(ElimFail::Memory),
+        Err(RowFail::Overflow) => Err(ElimFail::Overflow),
+        Ok(system) => {
+            let certificate = verdict(alloc, &system)?;
+            Ok(Decided {
+                system,
+                certificate,
+            })
+        }
+    }
+}
+
+/// The verdict on a system: no certificate exactly where it has a rational point, else one that is valid and
+/// not too heavy to check. `Overflow` and `TooManyRows` come only by the peak of the system.
+pub fn verdict(alloc: Global, system: &Part) -> Result<Option<Certificate>, ElimFail>
+    ensures right { IfOk result (spec.IsRight system.now) }
+    ensures overflow { IfErr result (λ fail. fail ≡ ElimFail.Overflow → 2 ^ 127 ≤ (peak system.now).weight) }
+    ensures rows { IfErr result (λ fail. fail ≡ ElimFail.TooManyRows → max_stage_rows < (peak system.now).rows) }
+{
+    match decide_by::<SparseRow>(alloc, system) {
+        Err(fail) => Err(fail),
+        Ok(Verdict::HasPoint) => Ok(None),
+        Ok(Verdict::Empty(certificate)) => Ok(Some(certificate)),
+    }
+}
+
+// The refusal of the system with this number.
+fn refused(fail: ElimFail, number: u32) -> Fail
+    ensures { result ≡ spec.refused fail number }
+{
+    match fail {
+        ElimFail::Memory => Fail::Memory,
+        ElimFail::Overflow => Fail::Refused(Refusal::Overflow(Where::System, number)),
+        ElimFail::TooManyRows => Fail::Refused(Refusal::TooManyRows(number)),
+    }
+}

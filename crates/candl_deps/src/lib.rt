@@ -1,0 +1,8 @@
+//! The dependences of a SCoP: each system decided, kept or dropped with a certificate, and their block.
+#![tactic(auto)]
+
+mod decisions;
+pub mod laws;
+mod systems;
+
+pub use decisions::{Decided, dependence_block, verdict, with_dependences};
