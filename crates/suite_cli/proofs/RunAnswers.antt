@@ -10,14 +10,21 @@ use Rattle.scop_core.specs.Layouts.{layout}
 use Rattle.scop_core.specs.Validity.{IsValid}
 use Rattle.scop_reader.specs.Texts.{IsScopText, fault}
 use Rattle.scop_reader.proofs.FaultPieces.{fault_is_not_too_long_law}
+use Rattle.scop_reader.proofs.GrammarProper.{stands_for_one_law}
 use Rattle.scop_reader.proofs.GrammarReadBack.{layout_reads_back_law}
+use Rattle.dependence_systems.specs.Sides.{own_sides}
+use Rattle.dependence_systems.specs.Entries.{entries}
+use Rattle.candl_deps.specs.Decisions.{IsDecidable, IsRefusal, WithDependences}
+use Rattle.candl_deps.proofs.Kept.{kept_hold_conflicts, right_is_sound}
+use Rattle.candl_deps.proofs.Printing.{decidable_is_not_refused}
 use Rattle.clan_extract.proofs.OneLoops.{one_loop_means, one_loop_names}
 use Rattle.suite_cli.specs.declared.outcomes.Outcome.{Outcome}
 use Rattle.suite_cli.specs.declared.outcomes.Outcome.TheVariants.{Done, Refused, Usage, ReadFault, WriteFault, Memory}
 use Rattle.suite_cli.specs.Answers.{Answers, CommandAnswers, Completes, IsRefused, ReadingAnswers, RefusalCause, Reported}
+use Rattle.suite_cli.specs.CandlPromise as candl
 use Rattle.suite_cli.specs.ClanPromise as clan
 use Rattle.suite_cli.specs.ClanPromise.{IsLoopText, scop_of}
-use Rattle.suite_cli.specs.Commands.{Command, Clan, Scop, Words, files_of}
+use Rattle.suite_cli.specs.Commands.{Command, Candl, Clan, Scop, Words, files_of}
 use Rattle.suite_cli.specs.FirstForm.{AreWords, IsFirstForm, IsHead, IsAssignment, LoopWords, content_lines, frame_of, loop_of}
 use Rattle.suite_cli.specs.Messages.{message}
 use Rattle.suite_cli.specs.Promises.{OfOne, Refuses, StopCause, Takes}
@@ -59,6 +66,22 @@ translates text output S l loop valid e s = record {
 -- the layout of a SCoP that was read prints it
 pub prints : (text output : List ℕ) (S : ScopData) → IsScopText text S → IsValid S → output ≡ layout S → scop.Makes text output
 prints text output S t valid e = record { scop = S; read = t; layout_is = e; stands = stands output S valid e }
+
+-- the layout of a SCoP with its block
+pub depends : (text output : List ℕ) (S made : ScopData) → IsScopText text S → IsValid S → IsValid made → WithDependences S made → output ≡ layout made → candl.Makes text output
+depends text output S made t valid kept with_block e =
+    let b = with_block.is_block in
+    let context = S.context in
+    let sound = right_is_sound context (own_sides S) (entries (own_sides S)) b.verdicts b.are.right in
+    record {
+      scop = S;
+      read = t;
+      made = made;
+      dependences = with_block;
+      layout_is = e;
+      stands = stands output made kept e;
+      conflicts = kept_hold_conflicts S valid b.verdicts sound;
+    }
 
 -- ---- what is told
 
@@ -137,6 +160,12 @@ no_loop_refusal text l refusal t h = absurd h
 no_scop_refusal : (text : List ℕ) (S : ScopData) (refusal : Refusal) → IsScopText text S → ¬ scop.Refuses text refusal
 no_scop_refusal text S refusal t h = let none : fault text ≡ None = text_has_no_fault text S t in absurd (cc)
 
+no_candl_refusal : (text : List ℕ) (S : ScopData) (refusal : Refusal) → IsScopText text S → IsDecidable S → ¬ candl.Refuses text refusal
+no_candl_refusal text S refusal t d (inl h) = no_scop_refusal text S refusal t h
+no_candl_refusal text S refusal t d (inr h) =
+    let same : h.0 ≡ S = stands_for_one_law text h.0 S h.1 t in
+    decidable_is_not_refused S refusal d (subst (λ (T : ScopData). IsRefusal T.context (own_sides T) (entries (own_sides T)) refusal) same h.2)
+
 -- what one text excludes, a list of one does
 one_excludes : (P Q : List ℕ → Type 0) → ((text : List ℕ) → P text → ¬ Q text) → (texts : List (List ℕ)) → OfOne P texts → ¬ OfOne Q texts
 one_excludes P Q none [] p q = p
@@ -147,6 +176,7 @@ one_excludes P Q none (text ∷ (more ∷ texts)) p q = p
 not_refused : (command : Command) (texts : List (List ℕ)) (place : ℕ) (refusal : Refusal) → Takes command texts → ¬ Refuses command texts place refusal
 not_refused (Clan file) texts place refusal t h = one_excludes clan.Takes (λ text. clan.Refuses text refusal) (λ text p. no_loop_refusal text p.0 refusal p.1) texts t h.1
 not_refused (Scop file) texts place refusal t h = one_excludes scop.Takes (λ text. scop.Refuses text refusal) (λ text p. no_scop_refusal text p.0 refusal p.1) texts t h.1
+not_refused (Candl file) texts place refusal t h = one_excludes candl.Takes (λ text. candl.Refuses text refusal) (λ text p. no_candl_refusal text p.0 refusal p.1 p.2) texts t h.1
 
 -- what no text has, no list of one has
 none_of_one : (P : List ℕ → Type 0) → ((text : List ℕ) → ¬ P text) → (texts : List (List ℕ)) → ¬ OfOne P texts
@@ -154,10 +184,15 @@ none_of_one P none [] h = h
 none_of_one P none (text ∷ []) h = none text h
 none_of_one P none (text ∷ (more ∷ texts)) h = h
 
+candl_not_too_long : (text : List ℕ) → ¬ candl.Refuses text TooLong
+candl_not_too_long text (inl h) = fault_is_not_too_long_law text h
+candl_not_too_long text (inr h) = h.2
+
 -- no command refuses a text as too long
 never_long : (command : Command) (texts : List (List ℕ)) (place : ℕ) → ¬ Refuses command texts place TooLong
 never_long (Clan file) texts place h = none_of_one (λ text. clan.Refuses text TooLong) (λ text r. r) texts h.1
 never_long (Scop file) texts place h = none_of_one (λ text. scop.Refuses text TooLong) fault_is_not_too_long_law texts h.1
+never_long (Candl file) texts place h = none_of_one (λ text. candl.Refuses text TooLong) candl_not_too_long texts h.1
 
 cause_unless_long : (command : Command) (before now : Inputs) (place : ℕ) (refusal : Refusal) → ¬ (refusal ≡ TooLong) → IsRefused command before now place refusal → RefusalCause command before now place refusal
 cause_unless_long command before now place TooLong other h = absurd (other refl)

@@ -5,6 +5,7 @@ pub mod Names
 pub mod Pieces
 pub mod Worlds
 pub mod Reads
+pub mod CandlPromise
 pub mod ClanPromise
 pub mod ScopPromise
 pub mod Promises

@@ -13,6 +13,8 @@ pub enum Work<'a> {
     Clan(&'a str),
     /// Prints the SCoP of a file.
     Scop(&'a str),
+    /// Prints the SCoP of a file with the block of its dependences.
+    Candl(&'a str),
 }
 
 impl<'a> Work<'a> {
@@ -26,6 +28,7 @@ impl<'a> Work<'a> {
         match self {
             Work::Clan(file) => one_file(file, k),
             Work::Scop(file) => one_file(file, k),
+            Work::Candl(file) => one_file(file, k),
         }
     }
 }
@@ -81,6 +84,8 @@ fn named_work<'a>(command: &str, file: &'a str) -> Option<Work<'a>>
         Some(Work::Clan(file))
     } else if command == "scop" {
         Some(Work::Scop(file))
+    } else if command == "candl" {
+        Some(Work::Candl(file))
     } else {
         None
     }

@@ -3,6 +3,7 @@
 ghost use Rattle.std.specs.Prelude.{◌≡◌, ◌≤◌, All, IfOk, IfErr, [], ◌∷◌, length, true, false};
 ghost use Rattle.suite_base.specs.Limits.{max_input};
 ghost use Rattle.suite_cli.specs.Answers as spec;
+ghost use Rattle.suite_cli.specs.CandlPromise as candl;
 ghost use Rattle.suite_cli.specs.ClanPromise as clan;
 ghost use Rattle.suite_cli.specs.Commands as command;
 ghost use Rattle.suite_cli.specs.Promises as promise;
@@ -14,6 +15,7 @@ use crate::first_form::read_first_form;
 use crate::outcomes::Outcome;
 use crate::readings::read_files;
 use crate::translations::translation;
+use candl_deps::with_dependences;
 use scop_reader::read_scop;
 use scop_writer::print_scop;
 use std::alloc::Global;
@@ -80,6 +82,7 @@ fn output_of(alloc: Global, work: &Work<'_>, texts: &[Text]) -> Result<Text, Out
     match work {
         Work::Clan(_) => made_of(1, translated(alloc, only(texts))),
         Work::Scop(_) => made_of(1, printed(alloc, only(texts))),
+        Work::Candl(_) => made_of(1, with_block(alloc, only(texts))),
     }
 }
 
@@ -131,6 +134,26 @@ fn printed(alloc: Global, bytes: &[u8]) -> Result<Text, Fail>
         Ok(scop) => match print_scop(alloc, &scop) {
             Err(_) => Err(Fail::Memory),
             Ok(output) => Ok(output),
+        },
+    }
+}
+
+/// The SCoP of a text with the block of its dependences, as it is printed.
+fn with_block(alloc: Global, bytes: &[u8]) -> Result<Text, Fail>
+    requires short { length bytes.now ≤ max_input }
+    ensures ok { IfOk result (λ output. candl.Makes bytes.now output) }
+    ensures err { IfErr result (promise.FailCause (candl.Refuses bytes.now)) }
+{
+    match read_scop(alloc, bytes) {
+        Err(Fail::Memory) => Err(Fail::Memory),
+        Err(Fail::Refused(refusal)) => Err(Fail::Refused(refusal)),
+        Ok(scop) => match with_dependences(alloc, scop) {
+            Err(Fail::Memory) => Err(Fail::Memory),
+            Err(Fail::Refused(refusal)) => Err(Fail::Refused(refusal)),
+            Ok(made) => match print_scop(alloc, &made) {
+                Err(_) => Err(Fail::Memory),
+                Ok(output) => Ok(output),
+            },
         },
     }
 }
