@@ -16,3 +16,4 @@ pub mod Dense
 pub mod Undone
 pub mod Kept
 pub mod Stays
+pub mod Lengths

@@ -3,3 +3,4 @@ pub mod Vectors
 pub mod Edits
 pub mod Answers
 pub mod Laws
+pub mod Lengths

@@ -5,6 +5,7 @@ mod betas;
 mod copies;
 mod edits;
 mod laws;
+pub mod length_laws;
 mod looks;
 mod rebuilds;
 mod refusals;
