@@ -12,3 +12,4 @@ pub mod VectorMaps
 pub mod Halves
 pub mod SplitFacts
 pub mod Prefixes
+pub mod SoundForms
