@@ -47,7 +47,7 @@ cut_one false leaf v X = refl
 abbrev pub cut_leaf : Command → ℤ → Leaf → Leaf
 cut_leaf command k leaf = with_beta (with_level (prefix_in command) (natural k) leaf.beta) (changed command (prefix_in command) leaf)
 
-leaf_cut : (command : Command) (k : ℤ) (V : List (List ℕ)) (leaf : Leaf) → IsCut command k → leaf_after command V leaf ≡ cut_leaf command k leaf ∷ []
+pub leaf_cut : (command : Command) (k : ℤ) (V : List (List ℕ)) (leaf : Leaf) → IsCut command k → leaf_after command V leaf ≡ cut_leaf command k leaf ∷ []
 leaf_cut (Stripmine p j s) k V leaf is =
     ap (λ t. t ∷ []) (cut_one (is_under (map natural p) leaf.beta) leaf (with_level (map natural p) (natural j) leaf.beta) (scheduled leaf.statement (forms_after (Stripmine p j s) leaf.statement.schedule)))
     ∙ ap (λ n. with_beta (with_level (map natural p) (natural n) leaf.beta) (changed (Stripmine p j s) (map natural p) leaf) ∷ []) is
@@ -97,7 +97,7 @@ natural_above (pos k) n h = let l = le_true (pos n) (pos k) h in omega (arith, i
 natural_above (negsuc k) n h = absurd (let l = le_true (pos n) (negsuc k) h in omega (arith, ints))
 
 -- a vector under P is longer than k
-longer_leaf : (parameters : ℕ) (k : ℤ) (leaf : Leaf) → IsSoundLeaf parameters leaf → has_level k leaf.statement ≡ true → natural k < length leaf.beta
+pub longer_leaf : (parameters : ℕ) (k : ℤ) (leaf : Leaf) → IsSoundLeaf parameters leaf → has_level k leaf.statement ≡ true → natural k < length leaf.beta
 longer_leaf parameters k leaf sound h =
     let long : length (map (λ b. pos b) leaf.beta) ≡ length leaf.statement.schedule.levels + 1 = sound.shape.schedule.relation.betas in
     let same : length (map (λ b. pos b) leaf.beta) ≡ length leaf.beta = length-map leaf.beta (λ b. pos b) in

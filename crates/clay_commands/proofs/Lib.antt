@@ -13,3 +13,4 @@ pub mod Halves
 pub mod SplitFacts
 pub mod Prefixes
 pub mod SoundForms
+pub mod SoundCuts

@@ -1,9 +1,10 @@
 -- What holds of the leaves between two commands of a script that is not refused: closed, they are statements of a SCoP.
-use Rattle.std.specs.Prelude.{ℕ, ◌≡◌, ◌≤◌, true, None, List, length, All}
+use Rattle.std.specs.Prelude.{ℕ, ◌≡◌, ◌≤◌, ◌<◌, ◌^◌, unsigned_abs, true, None, List, length, All}
 use Rattle.scop_core.specs.Printable.{is_body}
 use Rattle.scop_core.specs.Shapes.{IsShapedStatement}
 use Rattle.scop_core.specs.KeptLimits.{StatementKeepsLimits}
 use Rattle.clay_script.specs.declared.commands.Command.{Command}
+use Rattle.clay_script.specs.declared.commands.Command.TheVariants.{Stripmine, Tile}
 use Rattle.clay_commands.specs.declared.leaves.Leaf.{Leaf}
 use Rattle.clay_commands.specs.Arguments.{prefix_in}
 use Rattle.clay_commands.specs.Drafts.{Draft, betas_of, draft_after}
@@ -33,3 +34,9 @@ pub record IsCommandStep (parameters i : ℕ) (command : Command) (D E : Draft) 
   pub unrefused : refusal_at parameters i command D ≡ None
   pub draft : E ≡ draft_after command D
   pub vectors : V ≡ betas_of E
+
+-- the size of a cut is a coefficient
+abbrev pub SizesFit : Command → Type 0
+SizesFit (Stripmine p k size) = unsigned_abs size < 2 ^ 127
+SizesFit (Tile p k size t) = unsigned_abs size < 2 ^ 127
+SizesFit other = Unit {0}
