@@ -14,3 +14,4 @@ pub mod SplitFacts
 pub mod Prefixes
 pub mod SoundForms
 pub mod SoundCuts
+pub mod SoundSplits

@@ -62,7 +62,7 @@ split_form (Tile p j s t) xs ns c h = absurd h
 
 -- the leaf whose vector is P
 
-place_among : (P : List ℕ) (D : Draft) → In P (betas_of D) → place_in P D < length D
+pub place_among : (P : List ℕ) (D : Draft) → In P (betas_of D) → place_in P D < length D
 place_among P [] i = absurd i
 place_among P (leaf ∷ D) (inl e) =
     let same : same_vector leaf.beta P ≡ true = subst (λ v. same_vector leaf.beta v ≡ true) e (same_vector_refl leaf.beta) in
@@ -93,7 +93,7 @@ pub record SplitFacts (P : List ℕ) (D : Draft) (xs ns : List ℤ) : Type 0 whe
   pub within : place_in P D < length D
   pub parts : (d : Leaf) → All (IsDomainPart (length xs) (length ns)) (get_or D (place_in P D) d).statement.domain
 
-own_prefix : (P : List ℕ) → is_under P P ≡ true
+pub own_prefix : (P : List ℕ) → is_under P P ≡ true
 own_prefix P = subst (λ v. is_some (after P v) ≡ true) (append-nil P) (ap (λ o. is_some o) (after_append P []))
 
 unlimited : (i n : ℕ) (full : Bool) → (if nat_le 1024 n then Some (refusal.Limit Statements i) else (if full then Some (refusal.Limit Rows i) else None)) ≡ None → n < 1024
@@ -103,7 +103,7 @@ unlimited i n full h =
       | inr f ↦ leb-false 1024 n f
     ]
 
-facts_of : (parameters i : ℕ) (p xs ns : List ℤ) (c : ℤ) (P : List ℕ) (D : Draft) → condition_under parameters i (Iss p xs ns c) P D ≡ None → limit_of i (Iss p xs ns c) D ≡ None
+pub facts_of : (parameters i : ℕ) (p xs ns : List ℤ) (c : ℤ) (P : List ℕ) (D : Draft) → condition_under parameters i (Iss p xs ns c) P D ≡ None → limit_of i (Iss p xs ns c) D ≡ None
     → IsSound parameters D → SplitFacts P D xs ns
 facts_of parameters i p xs ns c P D con lim sound =
     let fits = all_under P (λ s. length xs == length s.body.iterators) D in
@@ -194,7 +194,7 @@ rest_long P u (leaf ∷ D) s a =
     let more = rest_long P u D s a.1 in
     ap (λ W. length (W ++ flat_map (leaf_split P) (betas_of D))) (other_split P leaf.beta other) ∙ (omega arith)
 
-split_long : (P : List ℕ) (D : Draft) → PrefixFree (betas_of D) → place_in P D < length D → length (flat_map (leaf_split P) (betas_of D)) ≡ length D + 1
+pub split_long : (P : List ℕ) (D : Draft) → PrefixFree (betas_of D) → place_in P D < length D → length (flat_map (leaf_split P) (betas_of D)) ≡ length D + 1
 split_long P [] free l = absurd (omega arith)
 split_long P (leaf ∷ D) free l =
     elim (bool_tells (same_vector leaf.beta P)) [

@@ -72,7 +72,7 @@ same_either : (u : Bool) (leaf : Leaf) (v : List ℕ) → record leaf { beta = v
 same_either true leaf v = refl
 same_either false leaf v = refl
 
-vector_leaf : (command : Command) (V : List (List ℕ)) (leaf : Leaf) → IsVectorCommand command → leaf_after command V leaf ≡ with_beta (vector_after command V leaf.beta) leaf ∷ []
+pub vector_leaf : (command : Command) (V : List (List ℕ)) (leaf : Leaf) → IsVectorCommand command → leaf_after command V leaf ≡ with_beta (vector_after command V leaf.beta) leaf ∷ []
 vector_leaf (Fission p c) V leaf is = ap (λ t. t ∷ []) (same_either (is_under (map natural p) leaf.beta) leaf (vector_after (Fission p c) V leaf.beta))
 vector_leaf (Fuse p) V leaf is = ap (λ t. t ∷ []) (same_either (is_under (map natural p) leaf.beta) leaf (vector_after (Fuse p) V leaf.beta))
 vector_leaf (Reorder p order) V leaf is = ap (λ t. t ∷ []) (same_either (is_under (map natural p) leaf.beta) leaf (vector_after (Reorder p order) V leaf.beta))
