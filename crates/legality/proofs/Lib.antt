@@ -3,6 +3,7 @@ mod Checks
 pub mod MixedStamps
 pub mod MixedSides
 pub mod ReversedRows
+pub mod ReversedCounts
 pub mod ViolationMeanings
 pub mod ReversedPairs
 pub mod KeptMemories

@@ -15,11 +15,11 @@ use Rattle.scop_core.specs.LevelOrder.{common_loops, EqualUpTo, LessAfter, IsLev
 use Rattle.scop_core.proofs.LevelOrder.{loops_are_common}
 use Rattle.dependence_systems.specs.declared.widths.Widths.{Widths}
 use Rattle.dependence_systems.specs.Fits.{SchedulesFit}
-use Rattle.dependence_systems.specs.Systems.{in_columns, equal_rows, rows_between}
+use Rattle.dependence_systems.specs.Systems.{in_columns, equal_rows, greater_row, greater_rows, rows_between}
 use Rattle.dependence_systems.proofs.Segments.{HasWidths}
 use Rattle.dependence_systems.proofs.Differences.{summed_value, level_floors}
 use Rattle.dependence_systems.proofs.RowMeanings.{equal_rows_meet}
-use Rattle.legality.specs.Reversals.{greater_row, greater_rows, reversed_rows}
+use Rattle.legality.specs.Reversals.{reversed_rows}
 
 -- the row of a level that is greater in the source
 greater_holds : (w : Widths) (a b : Affine) (x y l m u v n : List ℤ) → HasWidths w x y l m u v

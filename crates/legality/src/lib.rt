@@ -3,5 +3,7 @@
 
 pub mod laws;
 mod legal;
+mod mixing;
+mod reversing;
 
 pub use legal::Legal;
