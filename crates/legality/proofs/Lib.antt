@@ -7,3 +7,4 @@ pub mod ReversedCounts
 pub mod ViolationMeanings
 pub mod ReversedPairs
 pub mod KeptMemories
+pub mod ReadyEntries

@@ -11,44 +11,36 @@ use Rattle.dependence_systems.specs.Fits.{SideFits}
 use Rattle.dependence_systems.specs.Originals.{ArePieces}
 use Rattle.dependence_systems.proofs.Pairs.{all_member}
 use Rattle.dependence_systems.proofs.ScopPairs.{Matches, side_fits}
-use Rattle.legality.specs.Mixed.{mixed, mixed_originals}
+use Rattle.legality.specs.Mixed.{mixed, mixed_originals, mixed_at}
 use Rattle.legality.specs.Edits.{IsPieceOf, ArePiecesOf}
 use Rattle.legality.proofs.MixedStamps.{mixed_solved}
 
 same_value : {X : Type 0} {a b : X} → Some a ≡ Some b → a ≡ b
 same_value e = cc
 
--- the schedule of the original of statement number k
-abbrev pub old_schedule : List Statement → List ℕ → ℕ → Schedule
-old_schedule old of k = schedule_in (member old (member_or 0 (member of k)))
-
--- the order of its original over its floors
-abbrev pub mixed_schedule : List Statement → List Statement → List ℕ → ℕ → Schedule
-mixed_schedule old now of k = mixed (old_schedule old of k) (schedule_in (member now k))
-
 mixed_into : (old now : List Statement) (of : List ℕ) → ArePiecesOf old now of → (j : ℕ) (s : Statement) → slice_get now j ≡ Some s
-    → slice_get (mixed_originals old now of) j ≡ Some (under s (mixed_schedule old now of (suc j)))
+    → slice_get (mixed_originals old now of) j ≡ Some (under s (mixed_at old now of (suc j)))
 mixed_into old [] of h j s e = absurd (cc)
 mixed_into old (t ∷ now) [] h j s e = absurd h
 mixed_into old (t ∷ now) (k ∷ of) h zero s e = ap (λ u. Some (under u (mixed (schedule_in (member old k)) t.schedule))) (same_value e)
 mixed_into old (t ∷ now) (k ∷ of) h (suc j) s e = mixed_into old now of h.1 j s e
 
 mixed_back : (old now : List Statement) (of : List ℕ) → ArePiecesOf old now of → (j : ℕ) (side : Side) → slice_get (mixed_originals old now of) j ≡ Some side
-    → (s : Statement) × (slice_get now j ≡ Some s) × (side ≡ under s (mixed_schedule old now of (suc j)))
+    → (s : Statement) × (slice_get now j ≡ Some s) × (side ≡ under s (mixed_at old now of (suc j)))
 mixed_back old [] of h j side e = absurd (cc)
 mixed_back old (t ∷ now) [] h j side e = absurd h
 mixed_back old (t ∷ now) (k ∷ of) h zero side e = (t, refl, sym (same_value e))
 mixed_back old (t ∷ now) (k ∷ of) h (suc j) side e = mixed_back old now of h.1 j side e
 
-pub mixed_match : (old now : List Statement) (of : List ℕ) → ArePiecesOf old now of → Matches now (mixed_originals old now of) (mixed_schedule old now of)
+pub mixed_match : (old now : List Statement) (of : List ℕ) → ArePiecesOf old now of → Matches now (mixed_originals old now of) (mixed_at old now of)
 mixed_match old now of h = record { into = λ k s e. into k s e; back = λ k side e. back k side e }
   where
-    into : (k : ℕ) (s : Statement) → member now k ≡ Some s → member (mixed_originals old now of) k ≡ Some (under s (mixed_schedule old now of k))
+    into : (k : ℕ) (s : Statement) → member now k ≡ Some s → member (mixed_originals old now of) k ≡ Some (under s (mixed_at old now of k))
     into zero s e = absurd (cc)
     into (suc j) s e = mixed_into old now of h j s e
 
     back : (k : ℕ) (side : Side) → member (mixed_originals old now of) k ≡ Some side
-        → (s : Statement) × (member now k ≡ Some s) × (side ≡ under s (mixed_schedule old now of k))
+        → (s : Statement) × (member now k ≡ Some s) × (side ≡ under s (mixed_at old now of k))
     back zero side e = absurd (cc)
     back (suc j) side e = mixed_back old now of h j side e
 

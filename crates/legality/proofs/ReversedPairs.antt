@@ -25,11 +25,11 @@ use Rattle.dependence_systems.proofs.EntryFound.{IsEntry, entry_listed}
 use Rattle.dependence_systems.proofs.SystemMeanings.{PairHolds}
 use Rattle.dependence_systems.proofs.Pairs.{all_member, Found, found, named_fits}
 use Rattle.dependence_systems.proofs.ScopPairs.{Matches, Ordered, ordered_sides, originals_match, statement_is, stamp_is}
-use Rattle.legality.specs.Mixed.{mixed, mixed_sides}
+use Rattle.legality.specs.Mixed.{mixed, mixed_sides, old_schedule, mixed_at}
 use Rattle.legality.specs.Violations.{Edit, dependences, new_levels, violations_of, shared_pairing, violation_system}
 use Rattle.legality.specs.Edits.{IsEdit, ReversedPairsLieInViolations}
 use Rattle.legality.proofs.MixedStamps.{mixed_stamp}
-use Rattle.legality.proofs.MixedSides.{old_schedule, mixed_schedule, mixed_match, HasOriginal, original_of, pieces_are, mixed_fit}
+use Rattle.legality.proofs.MixedSides.{mixed_match, HasOriginal, original_of, pieces_are, mixed_fit}
 use Rattle.legality.proofs.ViolationMeanings.{Parts, with_schedules, reversed_system, lies_in_violation}
 
 -- there is a statement
@@ -161,7 +161,7 @@ statements_of E edit e i =
     }
 
 -- the schedule of a statement fits a part of its domain
-solved_at : (N : ℕ) (now : List Statement) → All (IsShapedStatement N) now → (k : ℕ) (s : Statement) → member now k ≡ Some s
+pub solved_at : (N : ℕ) (now : List Statement) → All (IsShapedStatement N) now → (k : ℕ) (s : Statement) → member now k ≡ Some s
     → (place : ℕ) (part : System) → member s.domain place ≡ Some part → IsSolvedSchedule part.shape.outputs N (schedule_in (member now k))
 solved_at N now shaped k s e place part h =
     let at : IsShapedStatement N s = all_member (IsShapedStatement N) now k s e shaped in
@@ -169,7 +169,7 @@ solved_at N now shaped k s e place part h =
     subst (λ found. IsSolvedSchedule part.shape.outputs N (schedule_in found)) (sym e) (subst (λ i. IsSolvedSchedule i N s.schedule) (sym p.outputs) at.schedule)
 
 -- the new schedules fit the columns
-renewed_fit : (N : ℕ) (p : Parts) (old_s now_s old_t now_t : Schedule) → IsSolvedSchedule p.source_part.shape.outputs N now_s → IsSolvedSchedule p.target_part.shape.outputs N now_t
+pub renewed_fit : (N : ℕ) (p : Parts) (old_s now_s old_t now_t : Schedule) → IsSolvedSchedule p.source_part.shape.outputs N now_s → IsSolvedSchedule p.target_part.shape.outputs N now_t
     → SchedulesFit (widths_of (with_schedules p (mixed old_s now_s) (mixed old_t now_t))) N now_s now_t
 renewed_fit N p old_s now_s old_t now_t s t = record {
   source_levels = s.relation.levels;
@@ -180,7 +180,7 @@ renewed_fit N p old_s now_s old_t now_t s t = record {
 
 -- the stamps of an instance before and after
 old_stamp : (E : Edit) → IsEdit E → (n : List ℤ) (a : Instance) → IsInstance E.now n a
-    → stamp E.old n (as_original E.of a) ≡ stamp_of (mixed_schedule E.old.statements E.now.statements E.of a.statement) a.values n
+    → stamp E.old n (as_original E.of a) ≡ stamp_of (mixed_at E.old.statements E.now.statements E.of a.statement) a.values n
 old_stamp E edit n a h =
     let k = a.statement in
     let N = E.now.context.shape.parameters in
@@ -199,8 +199,8 @@ new_stamp E n a = ap (λ found. stamp_in found a.values n) (statement_is E.now.s
 
 -- the parts of an entry of an ordered pair, with what holds of them
 record Holds (E : Edit) (n : List ℤ) (a b : Instance) (e : Dep) (t : Statements E e) : Type 0 where
-  fits : PairingFits (with_schedules (parts E e t) (mixed_schedule E.old.statements E.now.statements E.of e.source) (mixed_schedule E.old.statements E.now.statements E.of e.target))
-  holds : PairHolds (with_schedules (parts E e t) (mixed_schedule E.old.statements E.now.statements E.of e.source) (mixed_schedule E.old.statements E.now.statements E.of e.target)) e.level a.values b.values n
+  fits : PairingFits (with_schedules (parts E e t) (mixed_at E.old.statements E.now.statements E.of e.source) (mixed_at E.old.statements E.now.statements E.of e.target))
+  holds : PairHolds (with_schedules (parts E e t) (mixed_at E.old.statements E.now.statements E.of e.source) (mixed_at E.old.statements E.now.statements E.of e.target)) e.level a.values b.values n
   level : IsLevel (old_schedule E.old.statements E.of e.source).betas (old_schedule E.old.statements E.of e.target).betas e.level
 
 holds_of : (E : Edit) (edit : IsEdit E) (n : List ℤ) (a b : Instance) (f : Found E.now.context (mixed_sides E.old E.now E.of) n a b)
@@ -211,14 +211,14 @@ holds_of E edit n a b f all =
     let c = E.now.context in
     let t : Statements E e = statements_of E edit e i in
     let match = mixed_match E.old.statements E.now.statements E.of edit.pieces in
-    let es : i.source ≡ under t.source (mixed_schedule E.old.statements E.now.statements E.of e.source) = (match.back e.source i.source i.source_is).2 in
-    let et : i.target ≡ under t.target (mixed_schedule E.old.statements E.now.statements E.of e.target) = (match.back e.target i.target i.target_is).2 in
+    let es : i.source ≡ under t.source (mixed_at E.old.statements E.now.statements E.of e.source) = (match.back e.source i.source i.source_is).2 in
+    let et : i.target ≡ under t.target (mixed_at E.old.statements E.now.statements E.of e.target) = (match.back e.target i.target i.target_is).2 in
     let P : Parts = parts E e t in
     let fits : PairingFits (with_schedules P i.source.schedule i.target.schedule) = named_fits c (mixed_sides E.old E.now E.of) e i (scops_are_shaped E.now edit.now_valid).context all in
     let holds : PairHolds (with_schedules P i.source.schedule i.target.schedule) e.level a.values b.values n = f.holds in record {
-      fits = subst (λ u. PairingFits (with_schedules P u.schedule (mixed_schedule E.old.statements E.now.statements E.of e.target))) es
+      fits = subst (λ u. PairingFits (with_schedules P u.schedule (mixed_at E.old.statements E.now.statements E.of e.target))) es
           (subst (λ u. PairingFits (with_schedules P i.source.schedule u.schedule)) et fits);
-      holds = subst (λ u. PairHolds (with_schedules P u.schedule (mixed_schedule E.old.statements E.now.statements E.of e.target)) e.level a.values b.values n) es
+      holds = subst (λ u. PairHolds (with_schedules P u.schedule (mixed_at E.old.statements E.now.statements E.of e.target)) e.level a.values b.values n) es
           (subst (λ u. PairHolds (with_schedules P i.source.schedule u.schedule) e.level a.values b.values n) et holds);
       level = subst (λ u. IsLevel u.schedule.betas (old_schedule E.old.statements E.of e.target).betas e.level) es
           (subst (λ u. IsLevel i.source.schedule.betas u.schedule.betas e.level) et i.level);
@@ -281,15 +281,15 @@ reversed_pairs E edit n in_context a b h =
     let shaped : All (IsShapedStatement N) now = (scops_are_shaped E.now edit.now_valid).statements in
     let old_shaped : All (IsShapedStatement N) old = subst (λ c. All (IsShapedStatement c.shape.parameters) old) edit.context (scops_are_shaped E.old edit.old_valid).statements in
     let all : All (SideFits N) list = mixed_fit N old now E.of old_shaped shaped (scops_are_formed E.now edit.now_valid).statements edit.pieces in
-    let match : Matches now list (mixed_schedule old now E.of) = mixed_match old now E.of edit.pieces in
-    let ordered : Ordered E.now (mixed_schedule old now E.of) n a b = record {
+    let match : Matches now list (mixed_at old now E.of) = mixed_match old now E.of edit.pieces in
+    let ordered : Ordered E.now (mixed_at old now E.of) n a b = record {
       source = h.source;
       target = h.target;
       touch = h.touch;
-      order = subst (λ p. Before p (stamp_of (mixed_schedule old now E.of b.statement) b.values n)) (old_stamp E edit n a h.source)
+      order = subst (λ p. Before p (stamp_of (mixed_at old now E.of b.statement) b.values n)) (old_stamp E edit n a h.source)
           (subst (λ q. Before (stamp E.old n (as_original E.of a)) q) (old_stamp E edit n b h.target) h.before);
     } in
-    let f : Found c list n a b = found c list (scops_are_shaped E.now edit.now_valid).context all n in_context a b (ordered_sides E.now list (mixed_schedule old now E.of) match n a b ordered) in
+    let f : Found c list n a b = found c list (scops_are_shaped E.now edit.now_valid).context all n in_context a b (ordered_sides E.now list (mixed_at old now E.of) match n a b ordered) in
     let e = f.entry in
     let t : Statements E e = statements_of E edit e f.is_entry in
     let P : Parts = parts E e t in
@@ -302,10 +302,10 @@ reversed_pairs E edit n in_context a b h =
     (solved_at N now shaped e.target t.target t.target_is e.target_part t.target_domain t.target_domain_is) in
     let lies = lies_in_violation P (old_schedule old E.of e.source) s (old_schedule old E.of e.target) r e.level level.level a.values b.values n
     kept.fits fits kept.level level.is_level kept.holds level.order in
-    let first : shared_pairing E e ≡ with_schedules P (mixed_schedule old now E.of e.source) (mixed_schedule old now E.of e.target)
-    = pairing_by E e list (mixed_schedule old now E.of) match t in
+    let first : shared_pairing E e ≡ with_schedules P (mixed_at old now E.of e.source) (mixed_at old now E.of e.target)
+    = pairing_by E e list (mixed_at old now E.of) match t in
     let same : violation_system E (record { entry = e; level = level.level })
-    ≡ reversed_system (with_schedules P (mixed_schedule old now E.of e.source) (mixed_schedule old now E.of e.target)) e.level s r level.level
+    ≡ reversed_system (with_schedules P (mixed_at old now E.of e.source) (mixed_at old now E.of e.target)) e.level s r level.level
     = ap (λ m. reversed_system m e.level s r level.level) first in
     let made : In (record { entry = e; level = level.level }) (violations_of E e)
     = in_map (λ l. record { entry = e; level = l }) (new_levels E e) level.level ((levels_are_listed r.betas s.betas level.level).1 level.is_level) in record {

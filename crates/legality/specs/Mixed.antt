@@ -6,6 +6,7 @@ use Rattle.scop_core.specs.declared.statements.Statement.{Statement}
 use Rattle.scop_core.specs.ScopData.{ScopData}
 use Rattle.scop_core.specs.SolvedRows.{zeros}
 use Rattle.dependence_systems.specs.Sides.{Side, member, schedule_in, under}
+use Rattle.dependence_systems.specs.Systems.{member_or}
 
 -- the form with coefficients of so many floors: the missing ones are 0
 abbrev pub padded : ℕ → Affine → Affine
@@ -24,3 +25,11 @@ mixed_originals old (s ∷ now) (k ∷ of) = under s (mixed (schedule_in (member
 -- the statements of `now` under the orders that their originals have in `old`
 abbrev pub mixed_sides : ScopData → ScopData → List ℕ → List Side
 mixed_sides old now of = mixed_originals old.statements now.statements of
+
+-- the schedule of the original of statement number k
+abbrev pub old_schedule : List Statement → List ℕ → ℕ → Schedule
+old_schedule old of k = schedule_in (member old (member_or 0 (member of k)))
+
+-- the order of its original over its floors
+abbrev pub mixed_at : List Statement → List Statement → List ℕ → ℕ → Schedule
+mixed_at old now of k = mixed (old_schedule old of k) (schedule_in (member now k))

@@ -6,6 +6,7 @@ use Rattle.elim_core.specs.Peaks.{Peak, peak}
 use Rattle.scop_core.specs.declared.schedules.Schedule.{Schedule}
 use Rattle.scop_core.specs.ScopData.{ScopData}
 use Rattle.scop_core.specs.LevelOrder.{levels_between}
+use Rattle.clay_commands.specs.declared.edited.Edited.{Edited}
 use Rattle.dependence_systems.specs.declared.dependences.Dep.{Dep}
 use Rattle.dependence_systems.specs.Sides.{member, schedule_in, sides}
 use Rattle.dependence_systems.specs.Entries.{entries}
@@ -18,6 +19,10 @@ pub record Edit : Type 0 where
   pub old : ScopData
   pub now : ScopData
   pub of : List ℕ
+
+-- what a script makes of a SCoP, as an edit
+abbrev pub edit_of : ScopData → Edited → Edit
+edit_of S made = record { old = S; now = made.scop; of = made.of }
 
 -- the dependences of the new statements in the order of their originals
 abbrev pub dependences : Edit → List Dep

@@ -5,5 +5,6 @@ pub mod laws;
 mod legal;
 mod mixing;
 mod reversing;
+mod systems;
 
 pub use legal::Legal;
