@@ -1,0 +1,4 @@
+mod Checks
+pub mod Steps
+pub mod Sorted
+pub mod Dense

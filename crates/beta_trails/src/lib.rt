@@ -1,0 +1,6 @@
+//! Dense beta vectors in lexicographic order as a trail of lengths and agreements, and what edits make of them.
+#![tactic(auto)]
+
+mod laws;
+
+pub use laws::{sorted_tree_agrees, sorted_tree_is_trail, trail_is_tree};
