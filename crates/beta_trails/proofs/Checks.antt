@@ -1,7 +1,7 @@
 -- Worked cases of the definitions.
-use Rattle.std.proofs.Common.{◌≡◌, ℕ, List, [], ◌∷◌, ◌++◌, Ok, refl}
+use Rattle.std.proofs.Common.{◌≡◌, ℕ, List, [], ◌∷◌, Ok, refl}
 use Rattle.beta_tree.specs.Answers.{fission_answer, fuse_answer, reorder_answer}
-use Rattle.beta_trails.specs.Trails.{Step, zeros, next, trail, trail_end, agreement, steps_from, ranked}
+use Rattle.beta_trails.specs.Trails.{zeros, trail, steps_from, ranked}
 use Rattle.beta_trails.specs.Laws.{parted_loop, parted_child, placed_from}
 
 -- a loop of two statements, and one statement after it

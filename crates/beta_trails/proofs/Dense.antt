@@ -1,12 +1,12 @@
 -- A trail with agreements below both lengths is a tree.
-use Rattle.std.proofs.Common.{◌≡◌, ◌≢◌, ℕ, zero, suc, ◌+◌, ◌-◌, ◌<◌, ◌≤◌, ◌^◌, ◌==◌, nat_lt, true, false, if◌then◌else◌, ◌⊎◌, inl, inr, List, [], ◌∷◌, ◌++◌, length, take, refl, sym, ◌∙◌, ap, subst, arith}
+use Rattle.std.proofs.Common.{◌≡◌, ◌≢◌, ℕ, zero, suc, ◌+◌, ◌-◌, ◌<◌, ◌==◌, ◌⊎◌, inl, inr, List, [], ◌∷◌, ◌++◌, length, refl, sym, ◌∙◌, ap, subst, arith}
 use Rattle.std.proofs.lemmas.Bool.{eqb-true, eqb-false}
 use Rattle.beta_tree.specs.Laws.{Before}
-use Rattle.beta_tree.specs.Vectors.{In, Apart, ApartFromAll, PrefixFree, NoneEmpty, IsDense, IsTree}
+use Rattle.beta_tree.specs.Vectors.{In, Apart, ApartFromAll, PrefixFree, NoneEmpty, IsDense}
 use Rattle.beta_tree.proofs.Places.{bool_tells}
-use Rattle.beta_trails.specs.Trails.{Step, zeros, entry, next, trail, trail_end, Agreeing, Rising}
+use Rattle.beta_trails.specs.Trails.{Step, zeros, next, trail, Agreeing, Rising}
 use Rattle.beta_trails.specs.Laws.{TrailIsTree}
-use Rattle.beta_trails.proofs.Steps.{next_here, next_later, length_zeros, length_next, before_trans, before_next, rising_after}
+use Rattle.beta_trails.proofs.Steps.{next_here, next_later, length_zeros, length_next, before_next, rising_after}
 use Rattle.beta_trails.proofs.Sorted.{DenseIn}
 
 pub length_trail : (v : List ℕ) (steps : List Step) → length (trail v steps) ≡ length steps + 1

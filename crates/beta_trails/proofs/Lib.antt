@@ -2,3 +2,6 @@ mod Checks
 pub mod Steps
 pub mod Sorted
 pub mod Dense
+pub mod Parted
+pub mod Boundaries
+pub mod Ranked

@@ -1,10 +1,10 @@
 -- A tree's vectors in rising order are the trail of their agreements and lengths.
-use Rattle.std.proofs.Common.{◌≡◌, ◌≢◌, ℕ, zero, suc, ◌+◌, ◌-◌, ◌<◌, ◌≤◌, ◌==◌, nat_lt, true, false, if◌then◌else◌, ◌⊎◌, inl, inr, List, [], ◌∷◌, ◌++◌, length, take, refl, sym, ◌∙◌, ap, subst, arith}
-use Rattle.std.proofs.lemmas.Bool.{eqb-true, eqb-false, ltb-true, ltb-false}
+use Rattle.std.proofs.Common.{◌≡◌, ◌≢◌, ℕ, zero, suc, ◌+◌, ◌-◌, ◌<◌, ◌==◌, nat_lt, true, false, ◌⊎◌, inl, inr, List, [], ◌∷◌, ◌++◌, length, refl, sym, ◌∙◌, ap, subst, arith}
+use Rattle.std.proofs.lemmas.Bool.{ltb-true, ltb-false}
 use Rattle.beta_tree.specs.Laws.{Before}
-use Rattle.beta_tree.specs.Vectors.{In, IsTree}
+use Rattle.beta_tree.specs.Vectors.{In}
 use Rattle.beta_tree.proofs.Places.{bool_tells, same_yes, same_no}
-use Rattle.beta_trails.specs.Trails.{Step, zeros, entry, next, trail, trail_end, agreement, steps_from, Agreeing, Rising}
+use Rattle.beta_trails.specs.Trails.{zeros, next, trail, agreement, steps_from, Rising}
 use Rattle.beta_trails.specs.Laws.{SortedTreeIsTrail, SortedTreeAgrees}
 use Rattle.beta_trails.proofs.Steps.{next_here, next_later, before_itself, before_trans, rising_after}
 

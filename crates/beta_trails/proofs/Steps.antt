@@ -1,8 +1,8 @@
 -- Facts about one step of a trail.
-use Rattle.std.proofs.Common.{◌≡◌, ℕ, zero, suc, ◌+◌, ◌-◌, ◌<◌, ◌≤◌, ◌==◌, true, false, if◌then◌else◌, ◌⊎◌, inl, inr, List, [], ◌∷◌, ◌++◌, length, take, refl, sym, ◌∙◌, ap, subst, arith}
+use Rattle.std.proofs.Common.{◌≡◌, ℕ, zero, suc, ◌+◌, ◌-◌, ◌<◌, inl, inr, List, [], ◌∷◌, ◌++◌, length, take, refl, sym, ap, subst, arith}
 use Rattle.beta_tree.specs.Laws.{Before}
 use Rattle.beta_tree.specs.Vectors.{In}
-use Rattle.beta_trails.specs.Trails.{Step, zeros, entry, next, trail, trail_end, Agreeing, Rising}
+use Rattle.beta_trails.specs.Trails.{zeros, entry, next, Rising}
 
 pub next_here : (l x : ℕ) (v : List ℕ) → next 0 l (x ∷ v) ≡ (x + 1) ∷ zeros (l - 1)
 next_here l x v = ap (λ n. (x + 1) ∷ zeros n) (let e : l - 0 - 1 ≡ l - 1 = omega arith in e)

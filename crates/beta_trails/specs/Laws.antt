@@ -1,8 +1,8 @@
 -- What holds of trails, and what fission, fuse and reorder make of them.
-use Rattle.std.specs.Prelude.{◌≡◌, ℕ, ◌+◌, ◌-◌, ◌<◌, ◌≤◌, ◌^◌, true, Ok, List, [], ◌∷◌, ◌++◌, length, take, map}
+use Rattle.std.specs.Prelude.{◌≡◌, ℕ, ◌+◌, ◌-◌, ◌<◌, ◌^◌, true, Ok, List, [], ◌∷◌, ◌++◌, length, take, map}
 use Rattle.beta_tree.specs.Vectors.{IsTree}
 use Rattle.beta_tree.specs.Answers.{fission_answer, fuse_answer, reorder_answer}
-use Rattle.beta_tree.specs.Edits.{fissioned, is_permutation_of, place_of}
+use Rattle.beta_tree.specs.Edits.{is_permutation_of, place_of}
 use Rattle.beta_trails.specs.Trails.{Step, zeros, entry, trail, trail_end, steps_from, Agreeing, Rising, ranked}
 
 -- a tree's vectors in rising order are the trail of their agreements and lengths
@@ -39,7 +39,7 @@ FuseJoins =
 
 -- vectors whose neighbours agree in no entry are 0, 1 and so on with zeros behind
 abbrev pub ApartIsRanked : Type 0
-ApartIsRanked = (m : ℕ) (lengths : List ℕ) → trail (zeros m) (map (λ l. (0, l)) lengths) ≡ zeros m ∷ ranked 1 lengths
+ApartIsRanked = (m : ℕ) (lengths : List ℕ) → 0 < m → trail (zeros m) (map (λ l. (0, l)) lengths) ≡ ranked 0 (m ∷ lengths)
 
 -- vectors of these lengths, with the place of r and of its successors in order as their first entries and zeros behind
 abbrev pub placed_from : ℕ → List ℕ → List ℕ → List (List ℕ)

@@ -3,4 +3,7 @@
 
 mod laws;
 
-pub use laws::{sorted_tree_agrees, sorted_tree_is_trail, trail_is_tree};
+pub use laws::{
+    apart_is_ranked, fission_parts, fuse_joins, reorder_places, sorted_tree_agrees,
+    sorted_tree_is_trail, trail_is_tree,
+};
