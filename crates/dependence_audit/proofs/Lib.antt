@@ -1,1 +1,5 @@
 mod Checks
+pub mod Certified
+pub mod Compared
+pub mod EntryReadings
+pub mod Turns

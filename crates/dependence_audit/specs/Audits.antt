@@ -1,5 +1,5 @@
 -- The audit of a SCoP's block of dependences: its counts, or the first entry that is not the defined one.
-use Rattle.std.specs.Prelude.{◌≡◌, ℤ, pos, ℕ, ◌+◌, ◌^◌, nat_lt, if◌then◌else◌, List, [], ◌∷◌, length, bytes_eq, Option, Some, None, Result, Ok, Err}
+use Rattle.std.specs.Prelude.{◌≡◌, ◌<◌, ℤ, pos, ℕ, ◌+◌, ◌^◌, nat_lt, Bool, true, false, if◌then◌else◌, List, [], ◌∷◌, length, bytes_eq, Option, Some, None, Result, Ok, Err}
 use Rattle.suite_base.specs.declared.refusals.Fail.{Fail}
 use Rattle.suite_base.specs.declared.refusals.Fail.TheVariants as fail
 use Rattle.suite_base.specs.declared.refusals.Refusal.{Refusal}
@@ -92,3 +92,36 @@ audited S = counted (verdicts_in S)
 abbrev pub IsCause : Result Counts Refusal → Fail → Type 0
 IsCause answer fail.Memory = Unit {0}
 IsCause answer (fail.Refused refusal) = answer ≡ Err refusal
+
+-- a failure of the list of systems: want of memory, or there are too many of them
+abbrev pub IsTooMany : ScopData → Fail → Type 0
+IsTooMany S fail.Memory = Unit {0}
+IsTooMany S (fail.Refused refusal) = (refusal ≡ Limit Systems 0) × (max_systems < length (entries (own_sides S)))
+
+-- whether the verdict is that the entry is kept
+abbrev pub is_kept : Option (List ℤ) → Bool
+is_kept None = true
+is_kept (Some ls) = false
+
+-- entry number k is the defined one, kept or not, and its lines were taken
+pub record EntryStands (context : System) (sides : List Side) (k : ℕ) (e : Dep) (old new : List (List ℕ)) (kept : Bool) : Type 0 where
+  pub verdict : Option (List ℤ)
+  pub kept_is : kept ≡ is_kept verdict
+  pub reads : (list : List Dep) → read_entries context sides k (e ∷ list) old ≡ in_front verdict (read_entries context sides (k + 1) list new)
+
+-- entry number k is refused, or memory is wanting
+abbrev pub EntryStops : System → List Side → ℕ → Dep → List (List ℕ) → Fail → Type 0
+EntryStops context sides k e old fail.Memory = Unit {0}
+EntryStops context sides k e old (fail.Refused refusal) = (list : List Dep) → read_entries context sides k (e ∷ list) old ≡ Err refusal
+
+-- the first line is a count, and was taken
+pub record CountFollows (count : ℕ) (old new : List (List ℕ)) : Type 0 where
+  pub line : List ℕ
+  pub taken : old ≡ line ∷ new
+  pub says : says line (pos count ∷ []) ≡ true
+
+-- a count, and whether its line came first
+abbrev pub TakesCount : ℕ → List (List ℕ) → Bool → List (List ℕ) → Type 0
+TakesCount count old true new = CountFollows count old new
+TakesCount count [] false new = Unit {0}
+TakesCount count (line ∷ lines) false new = says line (pos count ∷ []) ≡ false

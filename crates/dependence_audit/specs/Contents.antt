@@ -1,5 +1,5 @@
 -- What the lines of a block say.
-use Rattle.std.specs.Prelude.{ℤ, pos, ℕ, ◌+◌, Bool, true, false, ◌&&◌, List, [], ◌∷◌, length, bytes_eq}
+use Rattle.std.specs.Prelude.{◌≡◌, ℤ, pos, ℕ, ◌+◌, ◌≤◌, drop, Bool, true, false, ◌&&◌, List, [], ◌∷◌, length, bytes_eq}
 use Rattle.std.specs.Ordering.{int_eq}
 use Rattle.suite_base.specs.Words.{content, words}
 use Rattle.suite_base.specs.Numbers.{number_read}
@@ -58,3 +58,25 @@ abbrev pub header_numbers : System → List ℤ
 header_numbers system =
     pos (length system.rows) ∷ (pos (columns system.shape + 2) ∷ (pos system.shape.outputs
     ∷ (pos system.shape.inputs ∷ (pos system.shape.locals ∷ (pos system.shape.parameters ∷ [])))))
+
+-- the first of these words is this one
+abbrev pub is_first : List ℕ → List (List ℕ) → Bool
+is_first word [] = false
+is_first word (v ∷ vs) = bytes_eq v word
+
+-- the first of these words is a number word of this number
+abbrev pub begins_with : ℤ → List (List ℕ) → Bool
+begins_with z [] = false
+begins_with z (w ∷ ws) = is_value (number_read w) z
+
+-- the first word of a line at or after a place is this one, and ends before another place
+pub record WordEnds (line : List ℕ) (from : ℕ) (word : List ℕ) (end : ℕ) : Type 0 where
+  pub within : end ≤ length line
+  pub first : words (drop from line) ≡ word ∷ words (drop end line)
+
+-- the first word of a line at or after a place is a number word of this number, and ends before another place
+pub record NumberEnds (line : List ℕ) (from : ℕ) (number : ℤ) (end : ℕ) : Type 0 where
+  pub within : end ≤ length line
+  pub word : List ℕ
+  pub first : words (drop from line) ≡ word ∷ words (drop end line)
+  pub value : is_value (number_read word) number ≡ true

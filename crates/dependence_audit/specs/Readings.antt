@@ -1,5 +1,5 @@
 -- How one entry of a block is read against the entry that it has to be.
-use Rattle.std.specs.Prelude.{ℤ, pos, ℕ, zero, suc, ◌+◌, ◌^◌, ◌==◌, nat_le, int_le, int_lt, Bool, true, false, ◌&&◌, ◌||◌, if◌then◌else◌, List, [], ◌∷◌, ◌++◌, length, codes, Option, Some, None}
+use Rattle.std.specs.Prelude.{◌≡◌, ℤ, pos, ℕ, zero, suc, ◌+◌, ◌^◌, ◌==◌, nat_le, int_le, int_lt, Bool, true, false, ◌&&◌, ◌||◌, if◌then◌else◌, List, [], ◌∷◌, ◌++◌, length, codes, Option, Some, None}
 use Rattle.std.specs.Ordering.{int_eq}
 use Rattle.suite_base.specs.Words.{words}
 use Rattle.relation_core.specs.Systems.{System, columns}
@@ -10,6 +10,8 @@ use Rattle.relation_core.specs.declared.part_rows.RowKind.TheVariants.{Equal, At
 use Rattle.farkas_cert.specs.Texts.{certificate_read}
 use Rattle.dependence_systems.specs.declared.dependences.Dep.{Dep}
 use Rattle.dependence_blocks.specs.Blocks.{entry_words}
+use Rattle.dependence_audit.specs.declared.readings.Finding.{Finding}
+use Rattle.dependence_audit.specs.declared.readings.Finding.TheVariants as finding
 use Rattle.dependence_audit.specs.Contents.{same_words, says, row_numbers, header_numbers}
 
 -- an inequality may be multiplied by what is not negative, an equality by anything
@@ -78,3 +80,23 @@ read_entry e system [] = Wrong
 read_entry e system (line ∷ lines) =
     if same_words (words line) (entry_words e ++ codes "kept" ∷ []) then read_kept system lines
     else (if same_words (words line) (entry_words e ++ codes "dropped" ∷ []) then read_dropped system lines else Wrong)
+
+-- what the code says of a reading; where the entry is the defined one, the lines behind it are left
+abbrev pub IsFound : Reading → Finding → List (List ℕ) → Type 0
+IsFound (Stands None lines) finding.Kept left = left ≡ lines
+IsFound (Stands (Some ls) lines) finding.Dropped left = left ≡ lines
+IsFound Wrong finding.Wrong left = Unit {0}
+IsFound Heavy finding.Heavy left = Unit {0}
+IsFound reading found left = ⊥
+
+-- the first line is that of a row, and was taken
+pub record RowFollows (row : PartRow) (old new : List (List ℕ)) : Type 0 where
+  pub line : List ℕ
+  pub taken : old ≡ line ∷ new
+  pub says : says line (row_numbers row) ≡ true
+
+-- a row, and whether its line came first
+abbrev pub TakesRow : PartRow → List (List ℕ) → Bool → List (List ℕ) → Type 0
+TakesRow row old true new = RowFollows row old new
+TakesRow row [] false new = Unit {0}
+TakesRow row (line ∷ lines) false new = says line (row_numbers row) ≡ false

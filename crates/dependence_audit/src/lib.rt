@@ -3,5 +3,9 @@
 #![tactic(auto)]
 
 mod audits;
+mod comparing;
+mod content_lines;
+mod readings;
+mod systems;
 
 pub use audits::{Counts, audit};
