@@ -2,6 +2,7 @@
 //! dropped with its multipliers.
 #![tactic(auto)]
 
+pub mod laws;
 mod printing;
 
 pub use printing::{block, print_count, print_entry};
