@@ -19,7 +19,7 @@ use Rattle.dependence_audit.specs.Audits.{by_reading, read_entries, EntryStands}
 
 -- ---- by the head line
 
-abbrev head_of : Dep → List ℕ → List (List ℕ)
+abbrev pub head_of : Dep → List ℕ → List (List ℕ)
 head_of e verdict = entry_words e ++ verdict ∷ []
 
 pub reads_kept : (e : Dep) (system : System) (old : List (List ℕ)) (line : List ℕ) (lines : List (List ℕ)) → old ≡ line ∷ lines

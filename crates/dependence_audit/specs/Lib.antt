@@ -1,3 +1,4 @@
 pub mod Contents
 pub mod Readings
 pub mod Audits
+pub mod Theorems

@@ -5,6 +5,7 @@
 mod audits;
 mod comparing;
 mod content_lines;
+pub mod laws;
 mod readings;
 mod systems;
 
