@@ -2,7 +2,6 @@
 #![tactic(auto)]
 
 mod decisions;
-pub mod laws;
 mod systems;
 
 pub use decisions::{Decided, dependence_block, verdict, with_dependences};

@@ -8,7 +8,7 @@ use Rattle.suite_base.specs.Words.{words}
 use Rattle.suite_base.specs.declared.refusals.Refusal.TheVariants.{Overflow, BadCertificate}
 use Rattle.suite_base.specs.declared.refusals.Where.TheVariants.{System as OfSystem}
 use Rattle.relation_core.specs.Systems.{System}
-use Rattle.dependence_systems.specs.declared.deps.Dep.{Dep}
+use Rattle.dependence_systems.specs.declared.dependences.Dep.{Dep}
 use Rattle.dependence_systems.specs.Sides.{Side}
 use Rattle.dependence_systems.specs.Systems.{system_of, summand_weight}
 use Rattle.dependence_blocks.specs.Blocks.{entry_words}

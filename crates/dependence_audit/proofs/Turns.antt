@@ -7,7 +7,7 @@ use Rattle.suite_base.specs.declared.refusals.Refusal.{Refusal}
 use Rattle.suite_base.specs.declared.refusals.Refusal.TheVariants.{BadCertificate}
 use Rattle.relation_core.specs.Systems.{System}
 use Rattle.scop_core.specs.Sequences.{In}
-use Rattle.dependence_systems.specs.declared.deps.Dep.{Dep}
+use Rattle.dependence_systems.specs.declared.dependences.Dep.{Dep}
 use Rattle.dependence_systems.specs.Sides.{Side}
 use Rattle.dependence_audit.specs.declared.audits.Counts.{Counts}
 use Rattle.dependence_audit.specs.Audits.{Verdicts, in_front, read_entries, kept_count, dropped_count, counted, is_kept, EntryStands, EntryStops, IsCause}

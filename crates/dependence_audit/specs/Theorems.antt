@@ -5,7 +5,7 @@ use Rattle.farkas_cert.specs.Certificates.{Valid}
 use Rattle.scop_core.specs.ScopData.{ScopData}
 use Rattle.scop_core.specs.Validity.{IsValid}
 use Rattle.scop_core.specs.Meaning.{Instance, InContext, Conflict}
-use Rattle.dependence_systems.specs.declared.deps.Dep.{Dep}
+use Rattle.dependence_systems.specs.declared.dependences.Dep.{Dep}
 use Rattle.dependence_systems.specs.Sides.{Side, own_sides}
 use Rattle.dependence_systems.specs.Entries.{entries}
 use Rattle.dependence_systems.specs.Systems.{system_of}

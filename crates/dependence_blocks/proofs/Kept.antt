@@ -5,7 +5,7 @@ use Rattle.relation_core.specs.Systems.{System}
 use Rattle.relation_core.proofs.Points.{members_are_points}
 use Rattle.scop_core.specs.Sequences.{In}
 use Rattle.scop_core.specs.Meaning.{Instance}
-use Rattle.dependence_systems.specs.declared.deps.Dep.{Dep}
+use Rattle.dependence_systems.specs.declared.dependences.Dep.{Dep}
 use Rattle.dependence_systems.specs.Sides.{Side, own_sides}
 use Rattle.dependence_systems.specs.Entries.{entries}
 use Rattle.dependence_systems.specs.Systems.{system_of}

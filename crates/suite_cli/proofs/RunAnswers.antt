@@ -15,7 +15,8 @@ use Rattle.scop_reader.proofs.GrammarReadBack.{layout_reads_back_law}
 use Rattle.dependence_systems.specs.Sides.{own_sides}
 use Rattle.dependence_systems.specs.Entries.{entries}
 use Rattle.candl_deps.specs.Decisions.{IsDecidable, IsRefusal, WithDependences}
-use Rattle.candl_deps.proofs.Kept.{kept_hold_conflicts, right_is_sound}
+use Rattle.candl_deps.proofs.Kept.{right_is_sound}
+use Rattle.dependence_blocks.proofs.Kept.{kept_hold_conflicts}
 use Rattle.candl_deps.proofs.Printing.{decidable_is_not_refused}
 use Rattle.clan_extract.proofs.OneLoops.{one_loop_means, one_loop_names}
 use Rattle.suite_cli.specs.declared.outcomes.Outcome.{Outcome}

@@ -7,7 +7,7 @@ use Rattle.scop_core.specs.Meaning.{Instance, InContext, Conflict}
 use Rattle.scop_reader.specs.Texts.{IsScopText, fault}
 use Rattle.dependence_systems.specs.Sides.{own_sides}
 use Rattle.dependence_systems.specs.Entries.{entries}
-use Rattle.candl_deps.specs.Conflicts.{LiesInKept}
+use Rattle.dependence_blocks.specs.Conflicts.{LiesInKept}
 use Rattle.candl_deps.specs.Decisions.{IsDecidable, IsRefusal, WithDependences}
 
 -- the output is the layout of the SCoP with the block of its dependences, and a text of that SCoP; in context, a pair of
