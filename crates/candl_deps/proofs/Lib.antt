@@ -1,3 +1,2 @@
 pub mod Kept
 pub mod Printing
-pub mod Own

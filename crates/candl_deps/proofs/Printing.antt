@@ -14,7 +14,7 @@ use Rattle.scop_core.specs.ScopData.{ScopData}
 use Rattle.scop_core.specs.Sequences.{In}
 use Rattle.dependence_systems.specs.declared.dependences.Dep.{Dep}
 use Rattle.dependence_systems.specs.Sides.{Side, own_sides}
-use Rattle.dependence_systems.specs.Entries.{entries}
+use Rattle.dependence_systems.specs.Entries.{entries, IsTooMany}
 use Rattle.dependence_systems.specs.Systems.{system_of}
 use Rattle.dependence_blocks.specs.Blocks.{entry_lines, lines_of}
 use Rattle.candl_deps.specs.Decisions.{IsRight, AreRight, AreLight, IsPrinted, IsDecided, StopsOne, StopsAt, IsRefusal, IsCause, FailsOne, refused, AreWithin, IsDecidable, entry_peak}
@@ -152,3 +152,9 @@ decidable_is_not_refused S (Limit which k) d h = let few = d.few in let many = h
 decidable_is_not_refused S (Overflow what k) d h = within_no_more S.context (own_sides S) (entries (own_sides S)) k d.within h.2
 decidable_is_not_refused S (TooManyRows k) d h = within_no_rows S.context (own_sides S) (entries (own_sides S)) k d.within h.1
 decidable_is_not_refused S refusal d h = absurd h
+
+-- ---- a list that is too long
+
+pub many_is_cause : (S : ScopData) → (failure : Fail) → IsTooMany (entries (own_sides S)) failure → IsCause S failure
+many_is_cause S fail.Memory h = tt
+many_is_cause S (fail.Refused refusal) h = subst (λ r. IsRefusal S.context (own_sides S) (entries (own_sides S)) r) (sym h.0) (refl, refl, h.1)

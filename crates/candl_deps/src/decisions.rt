@@ -13,9 +13,8 @@ ghost use Rattle.dependence_systems.specs.Systems.{system_of, summand_weight};
 ghost use Rattle.dependence_blocks.specs.Blocks.{block_name};
 ghost use Rattle.candl_deps.specs.Decisions as spec;
 
-use crate::systems::{own_entries, own_pieces, own_system};
 use dependence_blocks::{block, print_count, print_entry};
-use dependence_systems::Dep;
+use dependence_systems::{Dep, own_deps, own_pieces, own_system};
 use elim_core::{ElimFail, Verdict, decide_by};
 use farkas_cert::Certificate;
 use relation_core::Part;
@@ -65,6 +64,16 @@ pub fn with_dependences(alloc: Global, scop: Scop) -> Result<Scop, Fail>
         Ok(scop) => Ok(scop),
         Err(_) => Err(Fail::Memory),
     }
+}
+
+// The list of a SCoP's own systems.
+fn own_entries(alloc: Global, scop: &Scop, pieces: &Pieces) -> Result<List<Dep>, Fail>
+    requires own { pieces.now ≡ own_originals scop.now }
+    ensures list { IfOk result (λ list. list ≡ entries (own_sides scop.now)) }
+    ensures few { IfOk result (λ list. length list ≤ max_systems) }
+    ensures cause { IfErr result (spec.IsCause scop.now) }
+{
+    own_deps(alloc, scop, pieces)
 }
 
 // Every Scop is valid: a fact for contracts.

@@ -2,6 +2,5 @@
 #![tactic(auto)]
 
 mod decisions;
-mod systems;
 
 pub use decisions::{Decided, dependence_block, verdict, with_dependences};

@@ -13,3 +13,4 @@ pub mod ScopPairs
 pub mod Segments
 pub mod SystemMeanings
 pub mod SystemRows
+pub mod OwnSystems

@@ -11,6 +11,7 @@ pub mod level_rows;
 pub mod level_tests;
 mod listing;
 pub mod lookups;
+mod own;
 pub mod pieces;
 mod placing;
 mod systems;
@@ -18,4 +19,5 @@ pub mod widths;
 
 pub use dependences::{Dep, DepKind};
 pub use listing::deps;
+pub use own::{own_deps, own_pieces, own_system};
 pub use systems::system;

@@ -4,8 +4,8 @@ use Rattle.dependence_systems.specs.Sides.{Side}
 use Rattle.dependence_systems.specs.Entries.{entries}
 use Rattle.dependence_systems.specs.Systems.{system_of, summand_weight}
 use Rattle.row_core.specs.declared.arithmetic.RowFail.TheVariants as row
-use Rattle.candl_deps.proofs.Own.{own_has, own_same}
-use Rattle.candl_deps.proofs.systems.own_system.Goals as goal
+use Rattle.dependence_systems.proofs.OwnSystems.{own_has, own_same}
+use Rattle.dependence_systems.proofs.own.own_system.Goals as goal
 
 pub system-requires-clause-originals : goal.system-requires-clause-originals
 system-requires-clause-originals c = own_has c.args.scop.now c.args.pieces.now c.requires.own

@@ -5,28 +5,30 @@ ghost use Rattle.suite_base.specs.Limits.{max_statements, max_systems};
 ghost use Rattle.scop_core.specs.Sequences.{In};
 ghost use Rattle.dependence_systems.specs.Sides.{own_sides};
 ghost use Rattle.dependence_systems.specs.Originals.{own_originals};
-ghost use Rattle.dependence_systems.specs.Entries.{entries};
+ghost use Rattle.dependence_systems.specs.Entries.{entries, IsTooMany};
 ghost use Rattle.dependence_systems.specs.Systems.{system_of, summand_weight};
-ghost use Rattle.candl_deps.specs.Decisions.{IsCause};
 
-use dependence_systems::{Dep, deps, system};
+use crate::dependences::Dep;
+use crate::listing::deps;
+use crate::systems::system;
 use relation_core::Part;
 use row_core::RowFail;
 use scop_core::{Pieces, Scop};
 use std::alloc::Global;
 use suite_base::{Fail, List, NoMemory};
 
-// The list of a SCoP's own systems.
-pub fn own_entries(alloc: Global, scop: &Scop, pieces: &Pieces) -> Result<List<Dep>, Fail>
+/// The list of a SCoP's own systems, that is of its statements under their own schedules; `pieces` has each
+/// statement as its own original. It refuses as `deps` does.
+pub fn own_deps(alloc: Global, scop: &Scop, pieces: &Pieces) -> Result<List<Dep>, Fail>
     requires own { pieces.now ≡ own_originals scop.now }
     ensures list { IfOk result (λ list. list ≡ entries (own_sides scop.now)) }
     ensures few { IfOk result (λ list. length list ≤ max_systems) }
-    ensures cause { IfErr result (IsCause scop.now) }
+    ensures cause { IfErr result (IsTooMany (entries (own_sides scop.now))) }
 {
     deps(alloc, scop, scop, pieces)
 }
 
-// Each statement of a SCoP as its own original.
+/// Each statement of a SCoP as its own original.
 pub fn own_pieces(alloc: Global, scop: &Scop) -> Result<Pieces, NoMemory>
     ensures { IfOk result (λ pieces. pieces ≡ own_originals scop.now) }
 {
@@ -45,7 +47,7 @@ fn statements_are_few(scop: &Scop)
     let _count = scop.statement_count();
 }
 
-// The system of one entry of that list.
+/// The system of one entry of that list. Overflow comes as `system` has it.
 pub fn own_system(alloc: Global, scop: &Scop, pieces: &Pieces, entry: &Dep) -> Result<Part, RowFail>
     requires own { pieces.now ≡ own_originals scop.now }
     requires listed { In entry.now (entries (own_sides scop.now)) }

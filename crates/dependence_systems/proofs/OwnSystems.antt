@@ -1,13 +1,9 @@
 -- One SCoP as the old and the new one: its statements stand under their own schedules.
 use Rattle.std.proofs.Common.{◌≡◌, ℕ, suc, zero, ◌+◌, ◌<◌, List, [], ◌∷◌, ◌++◌, length, refl, ap, sym, ◌∙◌, subst, arith}
 use Rattle.std.specs.List.{range_with_len}
-use Rattle.suite_base.specs.declared.refusals.Fail.{Fail}
-use Rattle.suite_base.specs.declared.refusals.Fail.TheVariants as fail
-use Rattle.suite_base.specs.Limits.{max_systems}
 use Rattle.scop_core.specs.ScopData.{ScopData}
 use Rattle.dependence_systems.specs.declared.dependences.Dep.{Dep}
 use Rattle.dependence_systems.specs.Entries.{entries, IsTooMany}
-use Rattle.candl_deps.specs.Decisions.{IsCause, IsRefusal}
 use Rattle.dependence_systems.specs.Sides.{sides, own_sides}
 use Rattle.dependence_systems.specs.Originals.{HasOriginals, own_originals}
 use Rattle.dependence_systems.proofs.ScopPairs.{originals_are_own}
@@ -29,9 +25,3 @@ one_more_number k =
     let e : 1 + k ≡ k + 1 = omega arith in
     let f : suc k ≡ k + 1 = omega arith in
     ap (λ n. range_with_len 1 k ++ n ∷ []) (sym e) ∙ (sym (range_more k 1) ∙ ap (λ n. range_with_len 1 n) f)
-
-pub many_is_cause : (S : ScopData) (list : List Dep) → list ≡ entries (own_sides S) → (failure : Fail) → IsTooMany list failure → IsCause S failure
-many_is_cause S list same fail.Memory h = tt
-many_is_cause S list same (fail.Refused refusal) h =
-    let many : max_systems < length (entries (own_sides S)) = subst (λ (xs : List Dep). max_systems < length xs) same h.1 in
-    subst (λ r. IsRefusal S.context (own_sides S) (entries (own_sides S)) r) (sym h.0) (refl, refl, many)
