@@ -84,7 +84,7 @@ light_entry context sides k e list lines light =
     ap (λ b. if b then by_reading k (read_entry e (system_of context sides e) lines) (λ rest. read_entries context sides (k + 1) list rest) else Err (Overflow OfSystem k))
     (lt-ltb (summand_weight context sides e) (2 ^ 127) light)
 
-heavy_test : (a b : ℕ) → b ≤ a → nat_lt a b ≡ false
+pub heavy_test : (a b : ℕ) → b ≤ a → nat_lt a b ≡ false
 heavy_test a b h = elim (bool_tells (nat_lt a b)) [ inl e ↦ absurd (let less = (Decides-ltb a b).0 e in omega arith) | inr e ↦ e ]
 
 pub heavy_entry : (context : System) (sides : List Side) (k : ℕ) (e : Dep) (list : List Dep) (lines : List (List ℕ)) → 2 ^ 127 ≤ summand_weight context sides e

@@ -1,14 +1,18 @@
 -- What an audited block says.
-use Rattle.std.specs.Prelude.{◌≡◌, ◌↔◌, ℤ, List, [], ◌∷◌, Option, Some, None, Ok}
-use Rattle.relation_core.specs.Systems.{System, columns}
-use Rattle.farkas_cert.specs.Certificates.{Valid}
-use Rattle.scop_core.specs.ScopData.{ScopData}
+use Rattle.std.specs.Prelude.{◌≡◌, ◌<◌, ◌≤◌, ◌^◌, ◌↔◌, ℕ, ℤ, length, List, [], ◌∷◌, Option, Some, None, IfSome, Ok}
+use Rattle.suite_base.specs.Limits.{max_systems}
+use Rattle.row_core.specs.Rows.{AreCoefficients}
+use Rattle.relation_core.specs.Systems.{System, columns, IsWellFormed}
+use Rattle.farkas_cert.specs.Certificates.{Valid, IsTooHeavy}
+use Rattle.scop_core.specs.ScopData.{ScopData, extended}
 use Rattle.scop_core.specs.Validity.{IsValid}
 use Rattle.scop_core.specs.Meaning.{Instance, InContext, Conflict}
 use Rattle.dependence_systems.specs.declared.dependences.Dep.{Dep}
 use Rattle.dependence_systems.specs.Sides.{Side, own_sides}
 use Rattle.dependence_systems.specs.Entries.{entries}
-use Rattle.dependence_systems.specs.Systems.{system_of}
+use Rattle.dependence_systems.specs.Systems.{system_of, summand_weight}
+use Rattle.dependence_blocks.specs.Blocks.{block_lines, block_of}
+use Rattle.dependence_blocks.specs.KeptLines.{HasRange}
 use Rattle.dependence_blocks.specs.Conflicts.{AreSound, LiesInKept}
 use Rattle.dependence_audit.specs.declared.audits.Counts.{Counts}
 use Rattle.dependence_audit.specs.Audits.{Verdicts, verdicts_in, counts_of, audited}
@@ -22,8 +26,8 @@ IsCertified system (Some certificate) = Valid (columns system.shape) system.rows
 abbrev pub AreCertified : System → List Side → List Dep → Verdicts → Type 0
 AreCertified context sides [] [] = Unit {0}
 AreCertified context sides [] (verdict ∷ verdicts) = ⊥
-AreCertified context sides (e ∷ entries) [] = ⊥
-AreCertified context sides (e ∷ entries) (verdict ∷ verdicts) = IsCertified (system_of context sides e) verdict × AreCertified context sides entries verdicts
+AreCertified context sides (e ∷ list) [] = ⊥
+AreCertified context sides (e ∷ list) (verdict ∷ verdicts) = IsCertified (system_of context sides e) verdict × AreCertified context sides list verdicts
 
 -- a pair of instances lies in a kept system exactly where it conflicts, in context
 abbrev pub KeptAreConflicts : ScopData → Verdicts → Type 0
@@ -43,3 +47,30 @@ pub record IsAudited (S : ScopData) (counts : Counts) : Type 0 where
 -- a block that passes says what it should
 abbrev pub AuditedBlocksAreSound : Type 0
 AuditedBlocksAreSound = (S : ScopData) → IsValid S → (counts : Counts) → audited S ≡ Ok counts → IsAudited S counts
+
+-- each number of an entry's lines, and its multipliers where it is dropped, can be read back; they are a valid certificate
+-- that is not too heavy, and the summands of its system do not overflow
+pub record IsPrintable (e : Dep) (system : System) (weight : ℕ) (verdict : Option (List ℤ)) : Type 0 where
+  pub light : weight < 2 ^ 127
+  pub range : HasRange e
+  pub formed : IsWellFormed system.shape system.rows
+  pub few : length system.rows < 2 ^ 64
+  pub multipliers : IfSome verdict AreCoefficients
+  pub certified : IfSome verdict (λ certificate. Valid (columns system.shape) system.rows certificate × (¬ IsTooHeavy (columns system.shape) system.rows certificate))
+
+abbrev pub ArePrintable : System → List Side → List Dep → Verdicts → Type 0
+ArePrintable context sides [] [] = Unit {0}
+ArePrintable context sides [] (verdict ∷ verdicts) = ⊥
+ArePrintable context sides (e ∷ list) [] = ⊥
+ArePrintable context sides (e ∷ list) (verdict ∷ verdicts) =
+    IsPrintable e (system_of context sides e) (summand_weight context sides e) verdict × ArePrintable context sides list verdicts
+
+-- the SCoP with the block of these verdicts as its last extension, in place of an older one
+abbrev pub with_block : ScopData → Verdicts → ScopData
+with_block S verdicts = extended S (block_of (block_lines S.context (own_sides S) (entries (own_sides S)) verdicts))
+
+-- a printed block passes with the verdicts that it was printed of
+abbrev pub PrintedBlocksPass : Type 0
+PrintedBlocksPass = (S : ScopData) (verdicts : Verdicts) → length (entries (own_sides S)) ≤ max_systems
+    → ArePrintable S.context (own_sides S) (entries (own_sides S)) verdicts
+    → (verdicts_in (with_block S verdicts) ≡ Ok verdicts) × (audited (with_block S verdicts) ≡ Ok (counts_of verdicts))
