@@ -1,3 +1,4 @@
+pub mod ApartPairs
 pub mod BuilderFits
 mod Checks
 pub mod Differences
@@ -11,6 +12,7 @@ pub mod Pushes
 pub mod RowMeanings
 pub mod ScopPairs
 pub mod Segments
+pub mod SpanLaws
 pub mod SystemMeanings
 pub mod SystemRows
 pub mod OwnSystems

@@ -5,4 +5,5 @@ pub mod Lookups
 pub mod Originals
 pub mod Pairs
 pub mod Sides
+pub mod Spans
 pub mod Systems

@@ -14,6 +14,7 @@ pub mod lookups;
 mod own;
 pub mod pieces;
 mod placing;
+pub mod spans;
 mod systems;
 pub mod widths;
 

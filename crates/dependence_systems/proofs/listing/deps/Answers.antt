@@ -18,7 +18,7 @@ push_source-requires-clause-source c =
     let below : c.loop-j.j < length c.args.now.now.statements = omega (arith, c.loop-j-test.true, c.statement_count-count.ensures.count) in
     member_below c.args.now.now.statements c.loop-j.j (c.loop-j.j + 1) below refl
 
-all_entries : (c : goal.After-drop-list-inside) → entries_by_number (sides c.args.old.now c.args.now.now c.args.pieces.now) (length c.args.now.now.statements) ≡ entries (sides c.args.old.now c.args.now.now c.args.pieces.now)
+all_entries : (c : goal.After-drop-spans-inside) → entries_by_number (sides c.args.old.now c.args.now.now c.args.pieces.now) (length c.args.now.now.statements) ≡ entries (sides c.args.old.now c.args.now.now c.args.pieces.now)
 all_entries c = ap (λ n. entries_by_number (sides c.args.old.now c.args.now.now c.args.pieces.now) n) (sym (length_sides c.args.old.now.statements c.args.now.now.statements c.args.pieces.now c.requires.pieces)) ∙ entries_are (sides c.args.old.now c.args.now.now c.args.pieces.now)
 
 pub returns-in_err-push_source-clause-cause : goal.returns-in_err-push_source-clause-cause

@@ -1,6 +1,7 @@
 use Rattle.std.proofs.Common.{◌≡◌, ◌++◌, OnOk, IfErr, ap, sym, ◌∙◌, subst}
 use Rattle.dependence_systems.specs.Sides.{sides, under}
 use Rattle.dependence_systems.specs.Entries.{between, side_at, IsTooMany}
+use Rattle.dependence_systems.proofs.ApartPairs.{span_there, apart_pair}
 use Rattle.dependence_systems.proofs.NamedSides.{number_of_some, old_of_some, is_counted, side_found}
 use Rattle.dependence_systems.proofs.listing.push_pair.Goals as goal
 
@@ -45,3 +46,17 @@ returns-clause-entries c =
 pub returns-clause-cause : goal.returns-clause-cause
 returns-clause-cause c =
     subst (λ t. IfErr c.push_between.result (IsTooMany (c.args.list.now ++ t))) (same_pair c) c.push_between.ensures.cause
+
+pub numbered-requires : goal.numbered-requires
+numbered-requires c =
+    span_there c.args.spans.now c.args.now.now.statements c.statements.result.now c.args.source c.numbered-first.result.now c.requires.spans c.statements.ensures.answer c.numbered-first.ensures
+
+pub numbered-requires-2 : goal.numbered-requires-2
+numbered-requires-2 c =
+    span_there c.args.spans.now c.args.now.now.statements c.statements-2.result.now c.args.target c.numbered-second.result.now c.requires.spans c.statements-2.ensures.answer c.numbered-second.ensures
+
+pub returns-then-are_apart-clause-entries : goal.returns-then-are_apart-clause-entries
+returns-then-are_apart-clause-entries c =
+    apart_pair c.args.old.now c.args.now.now c.args.pieces.now c.args.spans.now c.args.list.now c.requires.originals c.requires.spans c.args.source c.args.target
+    c.statements.result.now c.statements-2.result.now c.numbered-first.result.now c.numbered-second.result.now c.numbered.result.now c.numbered-2.result.now
+    c.statements.ensures.answer c.numbered-first.ensures c.statements-2.ensures.answer c.numbered-second.ensures c.numbered.ensures c.numbered-2.ensures (c.are_apart.ensures c.if-are_apart.true)
