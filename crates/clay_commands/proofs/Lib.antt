@@ -15,3 +15,4 @@ pub mod Prefixes
 pub mod SoundForms
 pub mod SoundCuts
 pub mod SoundSplits
+pub mod ScriptRuns

@@ -114,16 +114,16 @@ sound_cut d p k t s schedule v w kl tl one fits weight few_levels few_floors lon
     let floors_long : length floors ≡ m + 1 = long_cut schedule.floors (new_floor a s) in
     let mapped : length (map widened schedule.levels) ≡ length schedule.levels = length-map schedule.levels widened in
     let levels_long : length levels ≡ length schedule.levels + 1 =
-        length-insert (map widened schedule.levels) t (last_floor a) (omega arith) ∙ ap (λ n. n + 1) mapped in
+    length-insert (map widened schedule.levels) t (last_floor a) (omega arith) ∙ ap (λ n. n + 1) mapped in
     let level_sizes : All (HasSizes d (m + 1) p) levels =
-        All-insert (HasSizes d (m + 1) p) (map widened schedule.levels) t (last_floor a)
-        (All-map (HasSizes d (m + 1) p) widened schedule.levels (All-weaker (HasSizes d m p) (λ b. HasSizes d (m + 1) p (widened b)) (λ b h. widened_sizes d m p b h) schedule.levels sound.solved.relation.levels))
-        (last_sizes d m p a sized) in
+    All-insert (HasSizes d (m + 1) p) (map widened schedule.levels) t (last_floor a)
+    (All-map (HasSizes d (m + 1) p) widened schedule.levels (All-weaker (HasSizes d m p) (λ b. HasSizes d (m + 1) p (widened b)) (λ b h. widened_sizes d m p b h) schedule.levels sound.solved.relation.levels))
+    (last_sizes d m p a sized) in
     let floor_sizes : All (λ f. HasSizes d (m + 1) p f.value) floors =
-        All-append (λ f. HasSizes d (m + 1) p f.value) (map widened_floor schedule.floors) (new_floor a s ∷ [])
-        (All-map (λ f. HasSizes d (m + 1) p f.value) widened_floor schedule.floors
-        (All-weaker (λ f. HasSizes d m p f.value) (λ f. HasSizes d (m + 1) p (widened f.value)) (λ f h. widened_sizes d m p f.value h) schedule.floors sound.solved.relation.floors))
-        (All-cons (λ f. HasSizes d (m + 1) p f.value) (new_floor a s) [] (widened_sizes d m p a sized) (All-nil (λ f. HasSizes d (m + 1) p f.value))) in
+    All-append (λ f. HasSizes d (m + 1) p f.value) (map widened_floor schedule.floors) (new_floor a s ∷ [])
+    (All-map (λ f. HasSizes d (m + 1) p f.value) widened_floor schedule.floors
+    (All-weaker (λ f. HasSizes d m p f.value) (λ f. HasSizes d (m + 1) p (widened f.value)) (λ f h. widened_sizes d m p f.value h) schedule.floors sound.solved.relation.floors))
+    (All-cons (λ f. HasSizes d (m + 1) p f.value) (new_floor a s) [] (widened_sizes d m p a sized) (All-nil (λ f. HasSizes d (m + 1) p f.value))) in
     let old_betas : length (map (λ b. pos b) v) ≡ length schedule.levels + 1 = sound.solved.relation.betas in
     let old_long = length-map v (λ b. pos b) in
     record {
@@ -195,9 +195,9 @@ sound_cut_leaf parameters command k leaf is fits can sound =
           let above : natural k < length leaf.beta = longer_leaf parameters k leaf sound ask.level in
           let long : length (insert leaf.beta (natural k) 0) ≡ length leaf.beta + 1 = length-insert leaf.beta (natural k) 0 (omega arith) in
           let made : IsSoundLeaf parameters (with_beta (insert leaf.beta (natural k) 0) new) =
-              sound_with parameters leaf (forms_after command leaf.statement.schedule) (insert leaf.beta (natural k) 0) sound
-              (sound_strip (length leaf.statement.body.iterators) parameters command k leaf.statement leaf.beta (insert leaf.beta (natural k) 0) is ask.changeable ask.weight fits ask.levels ask.floors long
-              (own_schedule parameters leaf sound)) in
+          sound_with parameters leaf (forms_after command leaf.statement.schedule) (insert leaf.beta (natural k) 0) sound
+          (sound_strip (length leaf.statement.body.iterators) parameters command k leaf.statement leaf.beta (insert leaf.beta (natural k) 0) is ask.changeable ask.weight fits ask.levels ask.floors long
+          (own_schedule parameters leaf sound)) in
           subst (λ u. IsSoundLeaf parameters (both u)) (sym t) made
       | inr f ↦ subst (λ u. IsSoundLeaf parameters (both u)) (sym f) sound
     ]
@@ -213,9 +213,10 @@ sound_cuts parameters command k (leaf ∷ D) is fits can sound =
 -- what is below a bound under P
 pub all_below : (P : List ℕ) (number : Statement → ℕ) (most : ℕ) (D : Draft) → most_under P number D < most → AllUnder P (λ s. number s < most) D
 all_below P number most [] h = tt
-all_below P number most (leaf ∷ D) h =
-    (λ u. (let counts : (if is_under P leaf.beta then number leaf.statement else 0) ≡ number leaf.statement = ap (λ b. if b then number leaf.statement else 0) u in omega arith),
-    all_below P number most D (omega arith))
+all_below P number most (leaf ∷ D) h = (
+  λ u. (let counts : (if is_under P leaf.beta then number leaf.statement else 0) ≡ number leaf.statement = ap (λ b. if b then number leaf.statement else 0) u in omega arith),
+  all_below P number most D (omega arith),
+)
 
 -- no limit of a cut is passed
 pub record CutRoom (P : List ℕ) (D : Draft) : Type 0 where

@@ -170,7 +170,7 @@ sound_changed parameters command P leaf is can sound =
     elim (bool_tells (is_under P leaf.beta)) [
       | inl t ↦
           let made : IsSoundLeaf parameters new = sound_with parameters leaf (forms_after command leaf.statement.schedule) leaf.beta sound
-              (sound_change (length leaf.statement.body.iterators) parameters command leaf.statement leaf.beta is (can t) refl (own_schedule parameters leaf sound)) in
+          (sound_change (length leaf.statement.body.iterators) parameters command leaf.statement leaf.beta is (can t) refl (own_schedule parameters leaf sound)) in
           subst (λ u. IsSoundLeaf parameters (if u then new else leaf)) (sym t) made
       | inr f ↦ subst (λ u. IsSoundLeaf parameters (if u then new else leaf)) (sym f) sound
     ]

@@ -132,8 +132,8 @@ split_counts p xs ns c V [] = refl
 split_counts p xs ns c V (leaf ∷ D) =
     let more = split_counts p xs ns c V D in
     let one : length (leaf_after (Iss p xs ns c) V leaf) ≡ length (leaf_split (map natural p) leaf.beta) =
-        elim (same_vector leaf.beta (map natural p)) as (λ u. length (if u then halves (map natural p) xs ns c leaf else with_beta (room (map natural p) leaf.beta) leaf ∷ [])
-        ≡ length (if u then leaf.beta ∷ (next_sibling (map natural p) ∷ []) else room (map natural p) leaf.beta ∷ [])) [ true ↦ refl | false ↦ refl ] in
+    elim (same_vector leaf.beta (map natural p)) as (λ u. length (if u then halves (map natural p) xs ns c leaf else with_beta (room (map natural p) leaf.beta) leaf ∷ [])
+    ≡ length (if u then leaf.beta ∷ (next_sibling (map natural p) ∷ []) else room (map natural p) leaf.beta ∷ [])) [ true ↦ refl | false ↦ refl ] in
     let a = length-append (leaf_after (Iss p xs ns c) V leaf) (flat_map (leaf_after (Iss p xs ns c) V) D) in
     let b = length-append (leaf_split (map natural p) leaf.beta) (flat_map (leaf_split (map natural p)) (betas_of D)) in
     omega arith

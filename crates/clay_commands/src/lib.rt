@@ -10,6 +10,7 @@ mod edited;
 mod form_edits;
 mod leaf_splits;
 mod leaves;
+mod runs;
 mod split_steps;
 mod splits;
 mod steps;
