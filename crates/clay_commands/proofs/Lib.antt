@@ -16,3 +16,4 @@ pub mod SoundForms
 pub mod SoundCuts
 pub mod SoundSplits
 pub mod ScriptRuns
+pub mod Closings
