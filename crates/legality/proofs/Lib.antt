@@ -8,3 +8,5 @@ pub mod ViolationMeanings
 pub mod ReversedPairs
 pub mod KeptMemories
 pub mod ReadyEntries
+pub mod Answered
+pub mod ViolationRows

@@ -33,7 +33,7 @@ pub has_originals : (E : Edit) → IsEdit E → HasOriginals E.old E.now E.of
 has_originals E edit = record { context = edit.context; pieces = pieces_are E.old.statements E.now.statements E.of edit.pieces }
 
 -- what an entry in the list names
-abbrev statements_in : (E : Edit) → IsEdit E → (e : Dep) → IsEntry (sides E.old E.now E.of) e → Statements E e
+abbrev pub statements_in : (E : Edit) → IsEdit E → (e : Dep) → IsEntry (sides E.old E.now E.of) e → Statements E e
 statements_in E edit e i =
     let match = originals_match E.old.statements E.now.statements E.of (pieces_are E.old.statements E.now.statements E.of edit.pieces) in
     let s = match.back e.source i.source i.source_is in

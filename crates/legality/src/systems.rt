@@ -7,12 +7,15 @@ ghost use Rattle.dependence_systems.specs.Lookups.{HasSide};
 ghost use Rattle.dependence_systems.specs.Systems.{system_weight};
 ghost use Rattle.legality.specs.Edits.{IsEdit};
 ghost use Rattle.legality.specs.Mixed.{mixed_at};
-ghost use Rattle.legality.specs.Violations.{edit_of, dependences, shared_pairing, shared_system};
+ghost use Rattle.legality.specs.Reversals.{reversed_weight};
+ghost use Rattle.legality.specs.Violations.{edit_of, dependences, new_schedule, shared_pairing, shared_system, violation_system};
+ghost use Rattle.scop_core.specs.LevelOrder.{IsLevel};
 
 use crate::mixing::mixed_schedule;
+use crate::reversing::push_reversed;
 use clay_commands::Edited;
 use dependence_systems::Dep;
-use dependence_systems::building::system_between;
+use dependence_systems::building::{system_between, widths_between};
 use dependence_systems::lookups::{numbered, original_of};
 use relation_core::Part;
 use row_core::RowFail;
@@ -65,4 +68,30 @@ pub fn shared_part(alloc: Global, scop: &Scop, edited: &Edited, dep: &Dep) -> Re
         &target_order,
         dep.level as usize,
     )
+}
+
+/// Appends the rows of a violation of `dep` at `level` to the rows that its violations share. Overflow
+/// comes exactly where an entry of them has summands whose absolute values sum above 2^127 - 1.
+pub fn push_violation(
+    scop: &Scop,
+    edited: &Edited,
+    dep: &Dep,
+    part: &mut Part,
+    level: usize,
+) -> Result<(), RowFail>
+    requires edit { IsEdit (edit_of scop.now edited.now) }
+    requires listed { In dep.now (dependences (edit_of scop.now edited.now)) }
+    requires shared { part.old ≡ shared_system (edit_of scop.now edited.now) dep.now }
+    requires level { IsLevel (new_schedule (edit_of scop.now edited.now) dep.now.target).betas (new_schedule (edit_of scop.now edited.now) dep.now.source).betas level }
+    ensures system { OnOk result (part.new ≡ violation_system (edit_of scop.now edited.now) (record { entry = dep.now; level = level })) }
+    ensures light { OnOk result (reversed_weight (new_schedule (edit_of scop.now edited.now) dep.now.source) (new_schedule (edit_of scop.now edited.now) dep.now.target) level < 2 ^ 127) }
+    ensures heavy { IfErr result (λ fail. fail ≡ RowFail.Overflow → 2 ^ 127 ≤ reversed_weight (new_schedule (edit_of scop.now edited.now) dep.now.source) (new_schedule (edit_of scop.now edited.now) dep.now.target) level) }
+{
+    let statements = edited.scop.statements();
+    let source = numbered(statements, dep.source);
+    let target = numbered(statements, dep.target);
+    let source_part = numbered(source.domain.parts(), dep.source_part);
+    let target_part = numbered(target.domain.parts(), dep.target_part);
+    let w = widths_between(source_part, target_part, &source.schedule, &target.schedule);
+    push_reversed(part, &w, &source.schedule, &target.schedule, level)
 }
