@@ -1,0 +1,3 @@
+mod Checks
+pub mod Ends
+pub mod Factors

@@ -1,0 +1,5 @@
+-- The script that turns the original's schedules into the target's.
+pub mod Triangles
+pub mod Recoverable
+pub mod LevelScripts
+pub mod Laws

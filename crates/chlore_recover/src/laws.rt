@@ -1,0 +1,13 @@
+//! Laws of recoverable levels, each as the contract of a function that does nothing.
+
+ghost use Rattle.chlore_recover.specs.Laws.{ApartIsFactored, FactoredIsApart};
+
+/// Rows whose last coefficients are signs at places that differ are a signed permutation times a unit lower triangle.
+pub fn apart_is_factored()
+    ensures { ApartIsFactored }
+{}
+
+/// Such a product has such rows, and both factors are determined.
+pub fn factored_is_apart()
+    ensures { FactoredIsApart }
+{}

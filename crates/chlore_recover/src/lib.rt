@@ -1,0 +1,6 @@
+//! The script that turns the schedules of one SCoP into those of another.
+#![tactic(auto)]
+
+mod laws;
+
+pub use laws::{apart_is_factored, factored_is_apart};
