@@ -72,7 +72,7 @@ with_variables n (w ∷ ws) = cond (is_constant n w) (with_variables n ws) (w �
 abbrev pub alike : ℕ → PartRow → PartRow → Bool
 alike n a b = cond (is_equal a.kind) false (cond (is_equal b.kind) false (same_cells (take n a.entries) (take n b.entries)))
 
--- a row joins pruned rows: of two alike the one with the lesser constant stays, the first on a tie
+-- a row inserted into pruned ones: of two alike the one with the lesser constant stays, the first on a tie
 abbrev pub admitted : ℕ → List PartRow → PartRow → List PartRow
 admitted n [] w = w ∷ []
 admitted n (o ∷ kept) w = cond (alike n o w) (cond (int_le (entry o.entries n) (entry w.entries n)) (o ∷ kept) (kept ++ (w ∷ []))) (o ∷ admitted n kept w)

@@ -19,7 +19,7 @@ use std::alloc::Global;
 
 /// Decides `system` as `decide_by` does, but begins with the reduced rows of its first rows. The
 /// system has the base's shape, and its rows begin with the base's. Where this way passes 2^127 - 1
-/// or 16,384 rows, the stated elimination of the whole system is gone instead.
+/// or 16,384 rows, it falls back to the stated elimination of the whole system.
 pub fn decide_with<R: Row>(
     alloc: Global,
     shared: &Reduced<R>,

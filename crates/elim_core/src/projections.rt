@@ -13,7 +13,7 @@ use row_core::Row;
 use std::alloc::Global;
 use suite_base::NoMemory;
 
-/// The most rows that a projection may have.
+// The most rows that a projection may have.
 const MAX_ROWS: usize = 16_384;
 
 /// The rows without column `j`, then each crossing of a positive with a negative row, in order.

@@ -51,7 +51,7 @@ pub fn tidy<R: Row>(
     Ok(kept)
 }
 
-// Lets a row join pruned rows. Each of these has its mark beside it.
+// Inserts a row into the pruned ones, each of which has its mark beside it.
 fn admit<R: Row>(
     n: usize,
     width: usize,

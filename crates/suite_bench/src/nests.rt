@@ -10,10 +10,10 @@ use relation_core::{Part, RowKind, Shape};
 use std::alloc::Global;
 use suite_base::NoMemory;
 
-/// The loops of one statement.
+// The loops of one statement.
 const LOOPS: usize = 3;
 
-/// The place of the first local.
+// The place of the first local.
 const LOCALS: usize = 6;
 
 /// The rows of two instances of the matrix product's statement that reach one element of C, without
@@ -74,6 +74,7 @@ struct Places {
     constant: usize,
 }
 
+// A part without rows, of three outputs and three inputs.
 fn empty(alloc: Global, locals: usize, parameters: usize) -> Part
     requires locals { locals ≤ 65536 }
     requires parameters { parameters ≤ 65536 }

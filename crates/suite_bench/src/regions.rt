@@ -12,7 +12,7 @@ const ASSIGNMENT: &[u8] = b"  A[i] = B[i + 1] * 2;\n";
 
 const ASSIGNMENTS: usize = 729_000;
 
-/// The region of a text, where it has one and the text is as short as the lexer wants it.
+// The region of a text, where it has one and the text is as short as the lexer wants it.
 fn region_span(bytes: &[u8]) -> Option<Span>
     ensures small { IfSome result (λ span. length bytes.now < 2 ^ 32 - 1) }
     ensures order { IfSome result (λ span. span.from ≤ span.to) }
@@ -47,6 +47,7 @@ pub fn token_count(text: &Text) -> u64 {
     }
 }
 
+// How many tokens a region has.
 fn tokens_in(bytes: &[u8], span: Span) -> u64
     requires small { length bytes.now < 2 ^ 32 - 1 }
     requires order { span.from ≤ span.to }

@@ -117,6 +117,7 @@ pub fn decision_times(
     })
 }
 
+// The time of one decision over dense rows, in nanoseconds on average.
 fn dense_time(clock: &impl Clock, alloc: Global, system: &Part, rounds: u32) -> Result<u128, Fail>
     requires { 0 < rounds }
 {
@@ -127,6 +128,7 @@ fn dense_time(clock: &impl Clock, alloc: Global, system: &Part, rounds: u32) -> 
     Ok(start.elapsed(clock)?.as_nanos() / u128::from(rounds))
 }
 
+// The same over sparse rows.
 fn sparse_time(clock: &impl Clock, alloc: Global, system: &Part, rounds: u32) -> Result<u128, Fail>
     requires { 0 < rounds }
 {
@@ -137,6 +139,7 @@ fn sparse_time(clock: &impl Clock, alloc: Global, system: &Part, rounds: u32) ->
     Ok(start.elapsed(clock)?.as_nanos() / u128::from(rounds))
 }
 
+// The same over sparse rows and a reduced base.
 fn shared_time(
     clock: &impl Clock,
     alloc: Global,
@@ -154,6 +157,7 @@ fn shared_time(
     Ok(start.elapsed(clock)?.as_nanos() / u128::from(rounds))
 }
 
+// How the decision of a system ends.
 fn end_of(alloc: Global, system: &Part) -> End {
     match decide(alloc, system) {
         Ok(Verdict::HasPoint) => End::Point,
