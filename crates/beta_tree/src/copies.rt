@@ -5,7 +5,7 @@ ghost use Rattle.std.specs.Prelude.{◌≡◌, ◌+◌, ◌<◌, ◌^◌, [], �
 use std::alloc::Global;
 use suite_base::{List, NoMemory};
 
-/// Appends `more` to `vector`.
+// Appends `more` to `vector`.
 fn extend(vector: &mut List<u32>, more: &[u32]) -> Result<(), NoMemory>
     ensures { OnOk result (vector.new ≡ vector.old ++ more.now) }
 {

@@ -9,7 +9,7 @@ use crate::looks::after;
 use std::alloc::Global;
 use suite_base::{List, NoMemory};
 
-/// The number of the sibling `x` of `p`, where a new sibling came right after `p`.
+// The number of the sibling `x` of `p`, where a new sibling came right after `p`.
 fn moved_up(p: u32, x: u32) -> u32
     requires { up p x < 2 ^ 32 }
     ensures { result ≡ up p x }
@@ -17,7 +17,7 @@ fn moved_up(p: u32, x: u32) -> u32
     if p < x { x + 1 } else { x }
 }
 
-/// The first two entries `x`, `y` of a vector after the fission of `p` at its child `first`.
+// The first two entries `x`, `y` of a vector after the fission of `p` at its child `first`.
 fn split_pair(p: u32, first: u32, x: u32, y: u32) -> [u32; 2]
     requires { Fit (split_loop p first (x ∷ (y ∷ []))) }
     ensures { result ≡ split_loop p first (x ∷ (y ∷ [])) }
@@ -31,7 +31,7 @@ fn split_pair(p: u32, first: u32, x: u32, y: u32) -> [u32; 2]
     }
 }
 
-/// `siblings`, and then `rest` after the fission of `p` at its child `first`.
+// `siblings`, and then `rest` after the fission of `p` at its child `first`.
 fn split_rest(
     alloc: Global,
     siblings: &[u32],
@@ -66,8 +66,8 @@ pub fn split_vector(
     }
 }
 
-/// The first two entries `x`, `y` of a vector after the fuse of `p`, which has `count` children, with
-/// the sibling after it.
+// The first two entries `x`, `y` of a vector after the fuse of `p`, which has `count` children, with
+// the sibling after it.
 fn join_pair(p: u32, count: u32, x: u32, y: u32) -> [u32; 2]
     requires { Fit (join_loops p count (x ∷ (y ∷ []))) }
     ensures { result ≡ join_loops p count (x ∷ (y ∷ [])) }
@@ -81,8 +81,8 @@ fn join_pair(p: u32, count: u32, x: u32, y: u32) -> [u32; 2]
     }
 }
 
-/// `siblings`, and then `rest` after the fuse of `p`, which has `count` children, with the sibling
-/// after it.
+// `siblings`, and then `rest` after the fuse of `p`, which has `count` children, with the sibling
+// after it.
 fn join_rest(
     alloc: Global,
     siblings: &[u32],
@@ -119,7 +119,7 @@ pub fn join_vector(
     }
 }
 
-/// The place of `child` in `order`, the length where it isn't there.
+// The place of `child` in `order`, the length where it isn't there.
 fn place(order: &[u32], child: u32) -> usize
     ensures { result ≡ place_of child order.now }
 {
@@ -131,7 +131,7 @@ fn place(order: &[u32], child: u32) -> usize
     order.len()
 }
 
-/// `prefix`, and then `rest` with the place in `order` of its first entry in place of that.
+// `prefix`, and then `rest` with the place in `order` of its first entry in place of that.
 fn reorder_rest(
     alloc: Global,
     prefix: &[u32],
@@ -180,7 +180,7 @@ pub fn level_vector(
     }
 }
 
-/// `siblings`, and then `rest` after room for a new leaf was made right after `p`.
+// `siblings`, and then `rest` after room for a new leaf was made right after `p`.
 fn room_rest(alloc: Global, siblings: &[u32], p: u32, rest: &[u32]) -> Result<List<u32>, NoMemory>
     requires { Fit (make_room p rest.now) }
     ensures { IfOk result (λ made. made ≡ siblings.now ++ make_room p rest.now) }

@@ -82,7 +82,7 @@ pub fn is_permutation(order: &[u32], count: usize) -> bool
     has_all(order)
 }
 
-/// Whether each number below the length of `order` is in it.
+// Whether each number below the length of `order` is in it.
 fn has_all(order: &[u32]) -> bool
     ensures { result ≡ has_all_below (length order.now) order.now }
 {
@@ -94,7 +94,7 @@ fn has_all(order: &[u32]) -> bool
     true
 }
 
-/// Whether `number` is in `order`.
+// Whether `number` is in `order`.
 fn has(order: &[u32], number: usize) -> bool
     ensures { result ≡ list_any (eqb number) order.now }
 {

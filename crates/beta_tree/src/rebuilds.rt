@@ -80,7 +80,7 @@ pub fn level_all(
     Ok(made)
 }
 
-/// Appends `leaf`, and then the leaf right after it, which is `siblings` and `p + 1`.
+// Appends `leaf`, and then the leaf right after it, which is `siblings` and `p + 1`.
 fn push_leaves(
     made: &mut List<List<u32>>,
     leaf: &[u32],
@@ -96,8 +96,8 @@ fn push_leaves(
     made.push(next)
 }
 
-/// Appends `vector` after room for a new leaf was made right after `leaf`, which is `siblings` and
-/// `p`; after `leaf` itself the new leaf.
+// Appends `vector` after room for a new leaf was made right after `leaf`, which is `siblings` and
+// `p`; after `leaf` itself the new leaf.
 fn push_split(
     made: &mut List<List<u32>>,
     leaf: &[u32],

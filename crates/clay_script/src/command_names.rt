@@ -59,7 +59,7 @@ pub fn command_named(letters: &[u8]) -> Option<CommandName>
     named_in(&CommandName::ALL, letters)
 }
 
-/// The first of `names` that has these letters.
+// The first of `names` that has these letters.
 fn named_in(names: &[CommandName], letters: &[u8]) -> Option<CommandName>
     ensures { result ≡ named_among names.now letters.now }
 {

@@ -47,7 +47,7 @@ impl<'a> Lexer<'a> {
         Lexeme { token, place }
     }
 
-    /// Passes over the blanks, newlines and comments that stand first.
+    // Passes over the blanks, newlines and comments that stand first.
     fn skip_gaps(&mut self)
         ensures same { lexemes 0 self.new.place self.new.rest.now ≡ lexemes 0 self.old.place self.old.rest.now }
         ensures done { BeginsToken self.new.rest.now }
@@ -63,7 +63,7 @@ impl<'a> Lexer<'a> {
         }
     }
 
-    /// Passes over `count` bytes, or all that are left.
+    // Passes over `count` bytes, or all that are left.
     fn pass(&mut self, count: usize)
         ensures same { lexemes 0 self.new.place self.new.rest.now ≡ lexemes count self.old.place self.old.rest.now }
         ensures size { length self.new.rest.now ≡ length self.old.rest.now - count }
@@ -80,7 +80,7 @@ impl<'a> Lexer<'a> {
     }
 }
 
-/// The place after `byte`, which stands at `place`.
+// The place after `byte`, which stands at `place`.
 fn step(place: Place, byte: u8) -> Place
     requires line { place.line + 1 < 2 ^ 32 }
     requires column { place.column + 1 < 2 ^ 32 }
@@ -99,28 +99,28 @@ fn step(place: Place, byte: u8) -> Place
     }
 }
 
-/// Whether `byte` is a blank or a newline.
+// Whether `byte` is a blank or a newline.
 fn is_gap_byte(byte: u8) -> bool
     ensures { result ≡ is_gap byte }
 {
     is_blank_byte(byte) || byte == b'\n'
 }
 
-/// Whether `byte` begins a number.
+// Whether `byte` begins a number.
 fn begins_number_byte(byte: u8) -> bool
     ensures { result ≡ begins_number byte }
 {
     is_digit_byte(byte) || byte == b'-'
 }
 
-/// The number of bytes before the first newline.
+// The number of bytes before the first newline.
 fn length_of_line(text: &[u8]) -> usize
     ensures { result ≡ line_length text.now }
 {
     text.iter().take_while(|b| **b != b'\n').count()
 }
 
-/// The number of letters at the front.
+// The number of letters at the front.
 #[tactic(auto, using(crate::proofs::Lexing::prefix_within))]
 fn letters_before(text: &[u8]) -> usize
     ensures answer { result ≡ prefix_len is_letter text.now }
@@ -129,7 +129,7 @@ fn letters_before(text: &[u8]) -> usize
     text.iter().take_while(|b| is_letter_byte(**b)).count()
 }
 
-/// The number of digits at the front.
+// The number of digits at the front.
 #[tactic(auto, using(crate::proofs::Lexing::prefix_within))]
 fn digits_before(text: &[u8]) -> usize
     ensures answer { result ≡ prefix_len is_digit text.now }
@@ -138,7 +138,7 @@ fn digits_before(text: &[u8]) -> usize
     text.iter().take_while(|b| is_digit_byte(**b)).count()
 }
 
-/// The number of bytes of the token at the front.
+// The number of bytes of the token at the front.
 fn length_of_token(text: &[u8]) -> usize
     ensures answer { result ≡ token_length text.now }
     ensures within { result ≤ length text.now }
@@ -157,7 +157,7 @@ fn length_of_token(text: &[u8]) -> usize
     }
 }
 
-/// The token that the bytes of one are.
+// The token that the bytes of one are.
 fn token_from(word: &[u8]) -> Token
     ensures { result ≡ token_of word.now }
 {
@@ -175,7 +175,7 @@ fn token_from(word: &[u8]) -> Token
     }
 }
 
-/// The token that a number word is.
+// The token that a number word is.
 fn number_from(word: &[u8]) -> Token
     ensures { result ≡ number_token (number_read word.now) }
 {
@@ -186,7 +186,7 @@ fn number_from(word: &[u8]) -> Token
     }
 }
 
-/// The token that a sign is.
+// The token that a sign is.
 fn sign_from(byte: u8) -> Token
     ensures { result ≡ sign_token byte }
 {

@@ -27,7 +27,7 @@ pub fn print_script(alloc: Global, script: &Script) -> Result<Text, NoMemory>
     Ok(text)
 }
 
-/// Appends the lines of `commands`.
+// Appends the lines of `commands`.
 fn push_commands(text: &mut Text, commands: &[Command]) -> Result<(), NoMemory>
     ensures text { OnOk result (text.new ≡ text.old ++ layout commands.now) }
     ensures fits { OnOk result (FitCommands commands.now) }
@@ -38,7 +38,7 @@ fn push_commands(text: &mut Text, commands: &[Command]) -> Result<(), NoMemory>
     Ok(())
 }
 
-/// Appends the line of a command.
+// Appends the line of a command.
 fn push_command(text: &mut Text, command: &Command) -> Result<(), NoMemory>
     ensures text { OnOk result (text.new ≡ text.old ++ command_text command.now) }
     ensures fits { OnOk result (FitArguments (arguments_of command.now)) }
@@ -47,7 +47,7 @@ fn push_command(text: &mut Text, command: &Command) -> Result<(), NoMemory>
     text.push_bytes(b");\n")
 }
 
-/// Appends the name of a command, `(` and the arguments.
+// Appends the name of a command, `(` and the arguments.
 fn push_arguments(text: &mut Text, command: &Command) -> Result<(), NoMemory>
     ensures text { OnOk result (text.new ≡ text.old ++ (letters_of (name_of command.now) ++ codes "(" ++ comma_joined (map argument_text (arguments_of command.now)))) }
     ensures fits { OnOk result (FitArguments (arguments_of command.now)) }
@@ -103,7 +103,7 @@ fn push_arguments(text: &mut Text, command: &Command) -> Result<(), NoMemory>
     }
 }
 
-/// Appends a command's name, `(` and the first argument.
+// Appends a command's name, `(` and the first argument.
 fn begin(text: &mut Text, name: CommandName, prefix: &Vector) -> Result<(), NoMemory>
     ensures text { OnOk result (text.new ≡ text.old ++ (letters_of name ++ codes "(" ++ vector_text prefix.now)) }
     ensures fits { OnOk result (AreCoefficients prefix.now) }
@@ -113,7 +113,7 @@ fn begin(text: &mut Text, name: CommandName, prefix: &Vector) -> Result<(), NoMe
     push_vector(text, prefix)
 }
 
-/// Appends `, ` and a number.
+// Appends `, ` and a number.
 fn push_next_number(text: &mut Text, number: Coeff) -> Result<(), NoMemory>
     ensures text { OnOk result (text.new ≡ text.old ++ behind_comma (signed_decimal number)) }
     ensures fits { OnOk result (unsigned_abs number < 2 ^ 127) }
@@ -122,7 +122,7 @@ fn push_next_number(text: &mut Text, number: Coeff) -> Result<(), NoMemory>
     text.push_number(number.value())
 }
 
-/// Appends `, ` and a vector.
+// Appends `, ` and a vector.
 fn push_next_vector(text: &mut Text, vector: &Vector) -> Result<(), NoMemory>
     ensures text { OnOk result (text.new ≡ text.old ++ behind_comma (vector_text vector.now)) }
     ensures fits { OnOk result (AreCoefficients vector.now) }
@@ -131,7 +131,7 @@ fn push_next_vector(text: &mut Text, vector: &Vector) -> Result<(), NoMemory>
     push_vector(text, vector)
 }
 
-/// Appends a vector.
+// Appends a vector.
 fn push_vector(text: &mut Text, vector: &Vector) -> Result<(), NoMemory>
     ensures text { OnOk result (text.new ≡ text.old ++ vector_text vector.now) }
     ensures fits { OnOk result (AreCoefficients vector.now) }
@@ -141,7 +141,7 @@ fn push_vector(text: &mut Text, vector: &Vector) -> Result<(), NoMemory>
     text.push(b']')
 }
 
-/// Appends numbers with `, ` between each two.
+// Appends numbers with `, ` between each two.
 fn push_numbers(text: &mut Text, numbers: &[Coeff]) -> Result<(), NoMemory>
     ensures { OnOk result (text.new ≡ text.old ++ comma_joined (map signed_decimal numbers.now)) }
 {
@@ -154,7 +154,7 @@ fn push_numbers(text: &mut Text, numbers: &[Coeff]) -> Result<(), NoMemory>
     }
 }
 
-/// Appends `, ` and a number for each of `numbers`.
+// Appends `, ` and a number for each of `numbers`.
 fn push_more_numbers(text: &mut Text, numbers: &[Coeff]) -> Result<(), NoMemory>
     ensures { OnOk result (text.new ≡ text.old ++ flat_map behind_comma (map signed_decimal numbers.now)) }
 {

@@ -39,7 +39,7 @@ pub fn read_script(alloc: Global, bytes: &[u8]) -> Result<Script, Fail>
     read_commands(alloc, &mut lexer)
 }
 
-/// Takes commands to the end of the text.
+// Takes commands to the end of the text.
 fn read_commands(alloc: Global, lexer: &mut Lexer<'_>) -> Result<Script, Fail>
     ensures { Answers result (commands_at max_commands (lexemes 0 lexer.old.place lexer.old.rest.now)) }
 {
@@ -54,7 +54,7 @@ fn read_commands(alloc: Global, lexer: &mut Lexer<'_>) -> Result<Script, Fail>
     Ok(script)
 }
 
-/// Takes the name of the next command; `None` at the end of the text.
+// Takes the name of the next command; `None` at the end of the text.
 fn next_name(lexer: &mut Lexer<'_>) -> Result<Option<CommandName>, Fail>
     ensures { NextName result (lexemes 0 lexer.new.place lexer.new.rest.now) (name_at (lexemes 0 lexer.old.place lexer.old.rest.now)) }
 {
@@ -66,7 +66,7 @@ fn next_name(lexer: &mut Lexer<'_>) -> Result<Option<CommandName>, Fail>
     }
 }
 
-/// The refusal for a token that may not stand at its place.
+// The refusal for a token that may not stand at its place.
 fn fault(token: Token, place: Place) -> Fail
     ensures { result ≡ Fail.Refused (fault_of token place) }
 {
@@ -76,7 +76,7 @@ fn fault(token: Token, place: Place) -> Fail
     }
 }
 
-/// Takes `(`.
+// Takes `(`.
 fn open_round(lexer: &mut Lexer<'_>) -> Result<(), Fail>
     ensures { Passes result (lexemes 0 lexer.new.place lexer.new.rest.now) (sign_at OpenRound (lexemes 0 lexer.old.place lexer.old.rest.now)) }
 {
@@ -87,7 +87,7 @@ fn open_round(lexer: &mut Lexer<'_>) -> Result<(), Fail>
     }
 }
 
-/// Takes `)`.
+// Takes `)`.
 fn close_round(lexer: &mut Lexer<'_>) -> Result<(), Fail>
     ensures { Passes result (lexemes 0 lexer.new.place lexer.new.rest.now) (sign_at CloseRound (lexemes 0 lexer.old.place lexer.old.rest.now)) }
 {
@@ -98,7 +98,7 @@ fn close_round(lexer: &mut Lexer<'_>) -> Result<(), Fail>
     }
 }
 
-/// Takes `;`.
+// Takes `;`.
 fn semicolon(lexer: &mut Lexer<'_>) -> Result<(), Fail>
     ensures { Passes result (lexemes 0 lexer.new.place lexer.new.rest.now) (sign_at Semicolon (lexemes 0 lexer.old.place lexer.old.rest.now)) }
 {
@@ -109,7 +109,7 @@ fn semicolon(lexer: &mut Lexer<'_>) -> Result<(), Fail>
     }
 }
 
-/// Takes `,`.
+// Takes `,`.
 fn comma(lexer: &mut Lexer<'_>) -> Result<(), Fail>
     ensures { Passes result (lexemes 0 lexer.new.place lexer.new.rest.now) (sign_at Comma (lexemes 0 lexer.old.place lexer.old.rest.now)) }
 {
@@ -120,7 +120,7 @@ fn comma(lexer: &mut Lexer<'_>) -> Result<(), Fail>
     }
 }
 
-/// Takes `[`.
+// Takes `[`.
 fn open_square(lexer: &mut Lexer<'_>) -> Result<(), Fail>
     ensures { Passes result (lexemes 0 lexer.new.place lexer.new.rest.now) (sign_at OpenSquare (lexemes 0 lexer.old.place lexer.old.rest.now)) }
 {
@@ -131,7 +131,7 @@ fn open_square(lexer: &mut Lexer<'_>) -> Result<(), Fail>
     }
 }
 
-/// Takes a number.
+// Takes a number.
 fn read_number(lexer: &mut Lexer<'_>) -> Result<Coeff, Fail>
     ensures { Gives result (lexemes 0 lexer.new.place lexer.new.rest.now) (number_at (lexemes 0 lexer.old.place lexer.old.rest.now)) }
 {
@@ -142,7 +142,7 @@ fn read_number(lexer: &mut Lexer<'_>) -> Result<Coeff, Fail>
     }
 }
 
-/// Takes a comma and a number.
+// Takes a comma and a number.
 #[tactic(auto, unfolding(crate::specs::Reading::next_number_at))]
 fn next_number(lexer: &mut Lexer<'_>) -> Result<Coeff, Fail>
     ensures { Gives result (lexemes 0 lexer.new.place lexer.new.rest.now) (next_number_at (lexemes 0 lexer.old.place lexer.old.rest.now)) }
@@ -151,7 +151,7 @@ fn next_number(lexer: &mut Lexer<'_>) -> Result<Coeff, Fail>
     read_number(lexer)
 }
 
-/// Takes a comma and a vector.
+// Takes a comma and a vector.
 #[tactic(auto, unfolding(crate::specs::Reading::next_vector_at))]
 fn next_vector(alloc: Global, lexer: &mut Lexer<'_>) -> Result<Vector, Fail>
     ensures { Gives result (lexemes 0 lexer.new.place lexer.new.rest.now) (next_vector_at (lexemes 0 lexer.old.place lexer.old.rest.now)) }
@@ -160,7 +160,7 @@ fn next_vector(alloc: Global, lexer: &mut Lexer<'_>) -> Result<Vector, Fail>
     read_vector(alloc, lexer)
 }
 
-/// Takes a vector.
+// Takes a vector.
 #[tactic(auto, unfolding(crate::specs::Reading::vector_at))]
 fn read_vector(alloc: Global, lexer: &mut Lexer<'_>) -> Result<Vector, Fail>
     ensures { Gives result (lexemes 0 lexer.new.place lexer.new.rest.now) (vector_at (lexemes 0 lexer.old.place lexer.old.rest.now)) }
@@ -169,7 +169,7 @@ fn read_vector(alloc: Global, lexer: &mut Lexer<'_>) -> Result<Vector, Fail>
     read_items(alloc, lexer)
 }
 
-/// Takes what follows the `[` of a vector, to its `]`.
+// Takes what follows the `[` of a vector, to its `]`.
 fn read_items(alloc: Global, lexer: &mut Lexer<'_>) -> Result<Vector, Fail>
     ensures { Gives result (lexemes 0 lexer.new.place lexer.new.rest.now) (items_at (lexemes 0 lexer.old.place lexer.old.rest.now)) }
 {
@@ -185,7 +185,7 @@ fn read_items(alloc: Global, lexer: &mut Lexer<'_>) -> Result<Vector, Fail>
     }
 }
 
-/// Takes what follows a number of a vector, to its `]`, and answers `vector` with the numbers.
+// Takes what follows a number of a vector, to its `]`, and answers `vector` with the numbers.
 fn read_more_items(lexer: &mut Lexer<'_>, vector: Vector) -> Result<Vector, Fail>
     ensures { Gives result (lexemes 0 lexer.new.place lexer.new.rest.now) (with_front vector (numbers_at (lexemes 0 lexer.old.place lexer.old.rest.now))) }
 {
@@ -196,7 +196,7 @@ fn read_more_items(lexer: &mut Lexer<'_>, vector: Vector) -> Result<Vector, Fail
     Ok(vector)
 }
 
-/// Takes what follows a number of a vector: true for a comma, false for `]`.
+// Takes what follows a number of a vector: true for a comma, false for `]`.
 fn has_more(lexer: &mut Lexer<'_>) -> Result<bool, Fail>
     ensures { Gives result (lexemes 0 lexer.new.place lexer.new.rest.now) (separator_at (lexemes 0 lexer.old.place lexer.old.rest.now)) }
 {
@@ -208,7 +208,7 @@ fn has_more(lexer: &mut Lexer<'_>) -> Result<bool, Fail>
     }
 }
 
-/// Takes the arguments of the command `name`.
+// Takes the arguments of the command `name`.
 #[tactic(auto, unfolding(crate::specs::Reading::arguments_at))]
 fn read_arguments(alloc: Global, lexer: &mut Lexer<'_>, name: CommandName) -> Result<Command, Fail>
     ensures { Gives result (lexemes 0 lexer.new.place lexer.new.rest.now) (arguments_at name (lexemes 0 lexer.old.place lexer.old.rest.now)) }
@@ -228,7 +228,7 @@ fn read_arguments(alloc: Global, lexer: &mut Lexer<'_>, name: CommandName) -> Re
     }
 }
 
-/// Takes the arguments of a `fission` after its prefix.
+// Takes the arguments of a `fission` after its prefix.
 fn read_fission(lexer: &mut Lexer<'_>, prefix: Vector) -> Result<Command, Fail>
     ensures { Gives result (lexemes 0 lexer.new.place lexer.new.rest.now) (rest_at CommandName.Fission prefix (lexemes 0 lexer.old.place lexer.old.rest.now)) }
 {
@@ -236,7 +236,7 @@ fn read_fission(lexer: &mut Lexer<'_>, prefix: Vector) -> Result<Command, Fail>
     Ok(Command::Fission(prefix, first))
 }
 
-/// Takes the arguments of a `reorder` after its prefix.
+// Takes the arguments of a `reorder` after its prefix.
 fn read_reorder(alloc: Global, lexer: &mut Lexer<'_>, prefix: Vector) -> Result<Command, Fail>
     ensures { Gives result (lexemes 0 lexer.new.place lexer.new.rest.now) (rest_at CommandName.Reorder prefix (lexemes 0 lexer.old.place lexer.old.rest.now)) }
 {
@@ -244,7 +244,7 @@ fn read_reorder(alloc: Global, lexer: &mut Lexer<'_>, prefix: Vector) -> Result<
     Ok(Command::Reorder(prefix, order))
 }
 
-/// Takes the arguments of a `interchange` after its prefix.
+// Takes the arguments of a `interchange` after its prefix.
 fn read_interchange(lexer: &mut Lexer<'_>, prefix: Vector) -> Result<Command, Fail>
     ensures { Gives result (lexemes 0 lexer.new.place lexer.new.rest.now) (rest_at CommandName.Interchange prefix (lexemes 0 lexer.old.place lexer.old.rest.now)) }
 {
@@ -253,7 +253,7 @@ fn read_interchange(lexer: &mut Lexer<'_>, prefix: Vector) -> Result<Command, Fa
     Ok(Command::Interchange(prefix, level, other))
 }
 
-/// Takes the arguments of a `skew` after its prefix.
+// Takes the arguments of a `skew` after its prefix.
 fn read_skew(lexer: &mut Lexer<'_>, prefix: Vector) -> Result<Command, Fail>
     ensures { Gives result (lexemes 0 lexer.new.place lexer.new.rest.now) (rest_at CommandName.Skew prefix (lexemes 0 lexer.old.place lexer.old.rest.now)) }
 {
@@ -263,7 +263,7 @@ fn read_skew(lexer: &mut Lexer<'_>, prefix: Vector) -> Result<Command, Fail>
     Ok(Command::Skew(prefix, level, other, factor))
 }
 
-/// Takes the arguments of a `shift` after its prefix.
+// Takes the arguments of a `shift` after its prefix.
 fn read_shift(alloc: Global, lexer: &mut Lexer<'_>, prefix: Vector) -> Result<Command, Fail>
     ensures { Gives result (lexemes 0 lexer.new.place lexer.new.rest.now) (rest_at CommandName.Shift prefix (lexemes 0 lexer.old.place lexer.old.rest.now)) }
 {
@@ -273,7 +273,7 @@ fn read_shift(alloc: Global, lexer: &mut Lexer<'_>, prefix: Vector) -> Result<Co
     Ok(Command::Shift(prefix, level, parameters, constant))
 }
 
-/// Takes the arguments of a `reverse` after its prefix.
+// Takes the arguments of a `reverse` after its prefix.
 fn read_reverse(lexer: &mut Lexer<'_>, prefix: Vector) -> Result<Command, Fail>
     ensures { Gives result (lexemes 0 lexer.new.place lexer.new.rest.now) (rest_at CommandName.Reverse prefix (lexemes 0 lexer.old.place lexer.old.rest.now)) }
 {
@@ -281,7 +281,7 @@ fn read_reverse(lexer: &mut Lexer<'_>, prefix: Vector) -> Result<Command, Fail>
     Ok(Command::Reverse(prefix, level))
 }
 
-/// Takes the arguments of a `stripmine` after its prefix.
+// Takes the arguments of a `stripmine` after its prefix.
 fn read_stripmine(lexer: &mut Lexer<'_>, prefix: Vector) -> Result<Command, Fail>
     ensures { Gives result (lexemes 0 lexer.new.place lexer.new.rest.now) (rest_at CommandName.Stripmine prefix (lexemes 0 lexer.old.place lexer.old.rest.now)) }
 {
@@ -290,7 +290,7 @@ fn read_stripmine(lexer: &mut Lexer<'_>, prefix: Vector) -> Result<Command, Fail
     Ok(Command::Stripmine(prefix, level, size))
 }
 
-/// Takes the arguments of a `tile` after its prefix.
+// Takes the arguments of a `tile` after its prefix.
 fn read_tile(lexer: &mut Lexer<'_>, prefix: Vector) -> Result<Command, Fail>
     ensures { Gives result (lexemes 0 lexer.new.place lexer.new.rest.now) (rest_at CommandName.Tile prefix (lexemes 0 lexer.old.place lexer.old.rest.now)) }
 {
@@ -300,7 +300,7 @@ fn read_tile(lexer: &mut Lexer<'_>, prefix: Vector) -> Result<Command, Fail>
     Ok(Command::Tile(prefix, level, size, outer))
 }
 
-/// Takes the arguments of a `iss` after its prefix.
+// Takes the arguments of a `iss` after its prefix.
 fn read_iss(alloc: Global, lexer: &mut Lexer<'_>, prefix: Vector) -> Result<Command, Fail>
     ensures { Gives result (lexemes 0 lexer.new.place lexer.new.rest.now) (rest_at CommandName.Iss prefix (lexemes 0 lexer.old.place lexer.old.rest.now)) }
 {
@@ -310,7 +310,7 @@ fn read_iss(alloc: Global, lexer: &mut Lexer<'_>, prefix: Vector) -> Result<Comm
     Ok(Command::Iss(prefix, iterators, parameters, constant))
 }
 
-/// Takes what follows the name of a command, to its `;`.
+// Takes what follows the name of a command, to its `;`.
 #[tactic(auto, unfolding(crate::specs::Reading::command_at))]
 fn read_command(alloc: Global, lexer: &mut Lexer<'_>, name: CommandName) -> Result<Command, Fail>
     ensures { Gives result (lexemes 0 lexer.new.place lexer.new.rest.now) (command_at name (lexemes 0 lexer.old.place lexer.old.rest.now)) }

@@ -12,7 +12,7 @@ use row_core::{Coeff, DenseRow, RowFail, Sum, add_scaled, negated};
 use std::alloc::Global;
 use suite_base::NoMemory;
 
-/// The row `a + q b`.
+// The row `a + q b`.
 #[tactic(auto, using(crate::proofs::AffineSums::sum_of_rows))]
 fn row_sum(alloc: Global, a: &DenseRow, q: Coeff, b: &DenseRow) -> Result<DenseRow, RowFail>
     requires { length a.now ≡ length b.now }
@@ -23,7 +23,7 @@ fn row_sum(alloc: Global, a: &DenseRow, q: Coeff, b: &DenseRow) -> Result<DenseR
     add_scaled(alloc, a, q, b)
 }
 
-/// The sum `a + q b`; `None` exactly where the absolute values of `a` and `q b` sum above 2^127 - 1.
+// The sum `a + q b`; `None` exactly where the absolute values of `a` and `q b` sum above 2^127 - 1.
 fn sum_with(a: Coeff, q: Coeff, b: Coeff) -> Option<Coeff>
     ensures { MatchOption result (2 ^ 127 ≤ pair_weight (pos 1) a q b)
         (λ sum. (sum ≡ a +ℤ (q *ℤ b)) × (pair_weight (pos 1) a q b < 2 ^ 127)) }
@@ -33,7 +33,7 @@ fn sum_with(a: Coeff, q: Coeff, b: Coeff) -> Option<Coeff>
     Some(both.value())
 }
 
-/// The row `a + b`.
+// The row `a + b`.
 #[tactic(auto, using(crate::proofs::AffineSums::one_of_row))]
 fn row_total(alloc: Global, a: &DenseRow, b: &[Coeff]) -> Result<DenseRow, RowFail>
     requires { length a.now ≡ length b.now }
@@ -47,7 +47,7 @@ fn row_total(alloc: Global, a: &DenseRow, b: &[Coeff]) -> Result<DenseRow, RowFa
     }
 }
 
-/// The sum `a + b`; `None` exactly where the absolute values sum above 2^127 - 1.
+// The sum `a + b`; `None` exactly where the absolute values sum above 2^127 - 1.
 fn total(a: Coeff, b: Coeff) -> Option<Coeff>
     ensures { MatchOption result (2 ^ 127 ≤ pair_weight (pos 1) a (pos 1) b)
         (λ sum. (sum ≡ a +ℤ b) × (pair_weight (pos 1) a (pos 1) b < 2 ^ 127)) }
@@ -55,7 +55,7 @@ fn total(a: Coeff, b: Coeff) -> Option<Coeff>
     sum_with(a, Coeff::ONE, b)
 }
 
-/// A copy of a row, beside sums that may overflow.
+// A copy of a row, beside sums that may overflow.
 fn copied_row(alloc: Global, row: &DenseRow) -> Result<DenseRow, RowFail>
     ensures ok { IfOk result (λ made. made ≡ row.now) }
     ensures memory { IfErr result (λ fail. fail ≡ RowFail.Memory) }
@@ -158,7 +158,7 @@ impl Affine {
     }
 }
 
-/// The row of `n` zeros.
+// The row of `n` zeros.
 fn zero_row(alloc: Global, n: usize) -> Result<DenseRow, NoMemory>
     ensures { IfOk result (λ row. row ≡ zeros n) }
 {

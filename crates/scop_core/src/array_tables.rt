@@ -25,7 +25,7 @@ impl Model for ArrayTable {
 }
 
 impl ArrayTable {
-    /// The empty table.
+    // The empty table.
     fn new(alloc: Global) -> ArrayTable
         ensures { result ≡ [] }
     {
@@ -51,7 +51,7 @@ impl ArrayTable {
         }
     }
 
-    /// Adds an array with a copy of this name, whose identifier no other one has.
+    // Adds an array with a copy of this name, whose identifier no other one has.
     fn push_copy(&mut self, alloc: Global, identifier: Coeff, name: &Text) -> Result<(), NoMemory>
         requires { has_no_array identifier self.old ≡ true }
         ensures { OnOk result (self.new ≡ self.old ++ (identifier, name.now) ∷ []) }
@@ -62,7 +62,7 @@ impl ArrayTable {
     }
 }
 
-/// The table of a list of arrays, whose identifiers are distinct.
+// The table of a list of arrays, whose identifiers are distinct.
 fn filled(alloc: Global, arrays: &[(Coeff, Text)]) -> Result<ArrayTable, NoMemory>
     requires { are_arrays arrays.now ≡ true }
     ensures { IfOk result (λ made. made ≡ arrays.now) }
@@ -74,7 +74,7 @@ fn filled(alloc: Global, arrays: &[(Coeff, Text)]) -> Result<ArrayTable, NoMemor
     Ok(made)
 }
 
-/// A copy of a table.
+// A copy of a table.
 fn copied(alloc: Global, table: &ArrayTable) -> Result<ArrayTable, NoMemory>
     requires { are_arrays table.now ≡ true }
     ensures { IfOk result (λ made. made ≡ table.now) }

@@ -17,7 +17,7 @@ use relation_core::Relation;
 use std::alloc::Global;
 use suite_base::{List, NoMemory, Refusal, Text};
 
-/// Whether the relation is one scattering in solved form.
+// Whether the relation is one scattering in solved form.
 fn is_solved_scattering(alloc: Global, relation: &Relation) -> Result<bool, NoMemory>
     ensures { IfOk result (λ answer. answer ≡ is_one is_scattering relation.now) }
 {
@@ -27,7 +27,7 @@ fn is_solved_scattering(alloc: Global, relation: &Relation) -> Result<bool, NoMe
     }
 }
 
-/// Whether the relation is one access in solved form.
+// Whether the relation is one access in solved form.
 fn is_solved_access(alloc: Global, relation: &Relation) -> Result<bool, NoMemory>
     ensures { IfOk result (λ answer. answer ≡ is_one is_access relation.now) }
 {
@@ -37,7 +37,7 @@ fn is_solved_access(alloc: Global, relation: &Relation) -> Result<bool, NoMemory
     }
 }
 
-/// Whether every access is in solved form.
+// Whether every access is in solved form.
 fn are_solved_accesses(alloc: Global, accesses: &[(AccessKind, Relation)]) -> Result<bool, NoMemory>
     ensures { IfOk result (λ answer. answer ≡ are_solved accesses.now) }
 {
@@ -49,7 +49,7 @@ fn are_solved_accesses(alloc: Global, accesses: &[(AccessKind, Relation)]) -> Re
     Ok(true)
 }
 
-/// Whether the scattering and the accesses of a statement are in solved form.
+// Whether the scattering and the accesses of a statement are in solved form.
 fn is_solved_statement(alloc: Global, raw: &RawStatement) -> Result<bool, NoMemory>
     ensures { IfOk result (λ answer. answer ≡ is_solved raw.now) }
 {
@@ -59,7 +59,7 @@ fn is_solved_statement(alloc: Global, raw: &RawStatement) -> Result<bool, NoMemo
     are_solved_accesses(alloc, raw.accesses.as_slice())
 }
 
-/// The number of iterators of a statement: the outputs of its domain.
+// The number of iterators of a statement: the outputs of its domain.
 fn iterator_count(raw: &RawStatement) -> usize
     ensures answer { result ≡ iterators_of raw.now }
     ensures limit { result ≤ 65536 }
@@ -70,7 +70,7 @@ fn iterator_count(raw: &RawStatement) -> usize
     }
 }
 
-/// A letter and a number behind it.
+// A letter and a number behind it.
 fn numbered(alloc: Global, letter: u8, number: usize) -> Result<Text, NoMemory>
     ensures { IfOk result (λ text. text ≡ letter ∷ decimal number) }
 {
@@ -80,7 +80,7 @@ fn numbered(alloc: Global, letter: u8, number: usize) -> Result<Text, NoMemory>
     Ok(text)
 }
 
-/// Appends the name of iterator `k`, from 0.
+// Appends the name of iterator `k`, from 0.
 fn push_name(alloc: Global, k: usize, made: &mut List<Text>) -> Result<(), NoMemory>
     requires { k < 65536 }
     ensures { OnOk result (made.new ≡ made.old ++ (105 ∷ decimal (k + 1)) ∷ []) }
@@ -90,7 +90,7 @@ fn push_name(alloc: Global, k: usize, made: &mut List<Text>) -> Result<(), NoMem
     Ok(())
 }
 
-/// The names i1, i2 and so on of `n` iterators.
+// The names i1, i2 and so on of `n` iterators.
 fn names_of(alloc: Global, n: usize) -> Result<List<Text>, NoMemory>
     requires { n ≤ 65536 }
     ensures names { IfOk result (λ names. names ≡ default_names 1 n) }
@@ -103,7 +103,7 @@ fn names_of(alloc: Global, n: usize) -> Result<List<Text>, NoMemory>
     Ok(made)
 }
 
-/// The body of statement number `number`, where it has none.
+// The body of statement number `number`, where it has none.
 fn default_body(alloc: Global, number: usize, iterators: usize) -> Result<Body, NoMemory>
     requires { iterators ≤ 65536 }
     ensures body { IfOk result (λ body. body ≡ body_from number iterators None) }
@@ -114,7 +114,7 @@ fn default_body(alloc: Global, number: usize, iterators: usize) -> Result<Body, 
     Ok(Body { text, iterators })
 }
 
-/// The body of a statement.
+// The body of a statement.
 fn body_of(
     alloc: Global,
     number: usize,
@@ -132,7 +132,7 @@ fn body_of(
     }
 }
 
-/// The schedule of a scattering in solved form.
+// The schedule of a scattering in solved form.
 fn schedule_from(alloc: Global, relation: &Relation) -> Result<Schedule, NoMemory>
     requires { is_one is_scattering relation.now ≡ true }
     ensures schedule { IfOk result (λ schedule. schedule ≡ schedule_of (the_part relation.now)) }
@@ -144,7 +144,7 @@ fn schedule_from(alloc: Global, relation: &Relation) -> Result<Schedule, NoMemor
     }
 }
 
-/// An access in solved form.
+// An access in solved form.
 fn access_from(alloc: Global, access: &(AccessKind, Relation)) -> Result<Access, NoMemory>
     requires { is_one is_access access.now.1 ≡ true }
     ensures access { IfOk result (λ made. made ≡ access_of access.now.0 (the_part access.now.1)) }
@@ -156,7 +156,7 @@ fn access_from(alloc: Global, access: &(AccessKind, Relation)) -> Result<Access,
     }
 }
 
-/// Appends an access in solved form.
+// Appends an access in solved form.
 fn push_access(
     alloc: Global,
     access: &(AccessKind, Relation),
@@ -171,7 +171,7 @@ fn push_access(
     Ok(())
 }
 
-/// The accesses in solved form.
+// The accesses in solved form.
 fn accesses_from(
     alloc: Global,
     accesses: &[(AccessKind, Relation)],
@@ -187,7 +187,7 @@ fn accesses_from(
     Ok(made)
 }
 
-/// Statement number `number` in solved form.
+// Statement number `number` in solved form.
 fn statement_from(alloc: Global, number: usize, raw: &RawStatement) -> Result<Statement, NoMemory>
     requires solved { is_solved raw.now ≡ true }
     requires names { HasNames raw.now }
@@ -208,7 +208,7 @@ fn statement_from(alloc: Global, number: usize, raw: &RawStatement) -> Result<St
     })
 }
 
-/// Appends statement number `number` in solved form.
+// Appends statement number `number` in solved form.
 fn push_statement(
     alloc: Global,
     number: usize,

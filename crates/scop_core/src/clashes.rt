@@ -7,7 +7,7 @@ use crate::statements::Statement;
 use row_core::Coeff;
 use suite_base::Refusal;
 
-/// Whether two vectors are equal, or one is a prefix of the other.
+// Whether two vectors are equal, or one is a prefix of the other.
 fn do_clash(a: &[Coeff], b: &[Coeff]) -> bool
     ensures { result ≡ vectors_clash a.now b.now }
 {
@@ -28,7 +28,7 @@ fn do_clash(a: &[Coeff], b: &[Coeff]) -> bool
     true
 }
 
-/// The clash of statement number `j`, which has these betas, with the first of those before it.
+// The clash of statement number `j`, which has these betas, with the first of those before it.
 fn clash_with(before: &[Statement], j: u32, betas: &[Coeff]) -> Option<Refusal>
     requires { length before.now ≤ 1024 }
     ensures { result ≡ clash_among 1 j before.now betas.now }

@@ -90,7 +90,7 @@ pub fn copied_affines(alloc: Global, items: &[Affine]) -> Result<List<Affine>, N
     Ok(made)
 }
 
-/// A copy of a floor.
+// A copy of a floor.
 fn copied_floor(alloc: Global, floor: &Floor) -> Result<Floor, NoMemory>
     ensures { IfOk result (λ made. made ≡ floor.now) }
 {
@@ -100,7 +100,7 @@ fn copied_floor(alloc: Global, floor: &Floor) -> Result<Floor, NoMemory>
     })
 }
 
-/// A copy of a list of floors.
+// A copy of a list of floors.
 fn copied_floors(alloc: Global, items: &[Floor]) -> Result<List<Floor>, NoMemory>
     ensures { IfOk result (λ made. made ≡ items.now) }
 {
@@ -122,7 +122,7 @@ pub fn copied_schedule(alloc: Global, schedule: &Schedule) -> Result<Schedule, N
     })
 }
 
-/// A copy of an access.
+// A copy of an access.
 fn copied_access(alloc: Global, access: &Access) -> Result<Access, NoMemory>
     ensures { IfOk result (λ made. made ≡ access.now) }
 {
@@ -175,7 +175,7 @@ pub fn copied_extensions(alloc: Global, items: &[Extension]) -> Result<List<Exte
     Ok(made)
 }
 
-/// A copy of a statement.
+// A copy of a statement.
 fn copied_statement(alloc: Global, statement: &Statement) -> Result<Statement, NoMemory>
     ensures { IfOk result (λ made. made ≡ statement.now) }
 {
@@ -223,14 +223,14 @@ pub fn copied_names(
     }
 }
 
-/// Whether two texts are the same.
+// Whether two texts are the same.
 fn is_same(a: &[u8], b: &[u8]) -> bool
     ensures { result ≡ bytes_eq a.now b.now }
 {
     a == b
 }
 
-/// Copies of the extensions of another name.
+// Copies of the extensions of another name.
 fn other_extensions(
     alloc: Global,
     items: &[Extension],

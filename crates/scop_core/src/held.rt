@@ -9,7 +9,7 @@ use relation_core::Relation;
 use row_core::Coeff;
 use suite_base::{List, Text};
 
-/// Every part of a relation is well-formed.
+// Every part of a relation is well-formed.
 fn parts_are_formed(relation: &Relation)
     ensures { All IsFormed relation.now }
 {
@@ -19,7 +19,7 @@ fn parts_are_formed(relation: &Relation)
     }
 }
 
-/// Every part of every access is.
+// Every part of every access is.
 fn accesses_are_formed(accesses: &[(AccessKind, Relation)])
     ensures { All (λ access. All IsFormed access.1) accesses.now }
 {
@@ -28,7 +28,7 @@ fn accesses_are_formed(accesses: &[(AccessKind, Relation)])
     }
 }
 
-/// The parts of a statement are, and its extensions can be counted.
+// The parts of a statement are, and its extensions can be counted.
 fn statement_is_held(raw: &RawStatement)
     ensures { StatementIsHeld raw.now }
 {
@@ -38,7 +38,7 @@ fn statement_is_held(raw: &RawStatement)
     let _extensions = raw.extensions.len();
 }
 
-/// Every statement is held.
+// Every statement is held.
 fn statements_are_held(raws: &[RawStatement])
     ensures { All StatementIsHeld raws.now }
 {
@@ -47,7 +47,7 @@ fn statements_are_held(raws: &[RawStatement])
     }
 }
 
-/// The identifiers of arrays are in range.
+// The identifiers of arrays are in range.
 fn arrays_are_small(arrays: &[(Coeff, Text)])
     ensures { All (λ array. unsigned_abs array.0 < 2 ^ 127) arrays.now }
 {
@@ -56,7 +56,7 @@ fn arrays_are_small(arrays: &[(Coeff, Text)])
     }
 }
 
-/// The same where arrays are present.
+// The same where arrays are present.
 fn arrays_are_held(arrays: &Option<List<(Coeff, Text)>>)
     ensures { IfSome arrays.now (All (λ array. unsigned_abs array.0 < 2 ^ 127)) }
 {

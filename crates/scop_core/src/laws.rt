@@ -77,13 +77,13 @@ pub fn access_reads_back()
     ensures { AccessReadsBack }
 {}
 
-/// The schedule that a scattering in solved form is has sizes of at least 1, and floors that use
+/// The schedule encoded by a scattering in solved form has sizes of at least 1, and floors that use
 /// earlier floors alone.
 pub fn scattering_is_solved()
     ensures { ScatteringIsSolved }
 {}
 
-/// The access that an access relation in solved form is has an identifier of at least 1.
+/// The access encoded by an access relation in solved form has an identifier of at least 1.
 pub fn access_is_solved()
     ensures { AccessIsSolved }
 {}

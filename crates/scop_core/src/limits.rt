@@ -17,7 +17,7 @@ pub enum PartCount {
     RowCount,
 }
 
-/// How many a part has.
+// How many of them a part has.
 fn count_in(count: PartCount, part: &Part) -> usize
     ensures { result ≡ count_of count part.now }
 {
@@ -28,7 +28,7 @@ fn count_in(count: PartCount, part: &Part) -> usize
     }
 }
 
-/// Whether some part of `relation` has more than `most`.
+// Whether any part of `relation` has more than `most` of them.
 fn passes(count: PartCount, most: usize, relation: &Relation) -> bool
     ensures { result ≡ some_above count most relation.now }
 {
@@ -41,7 +41,7 @@ fn passes(count: PartCount, most: usize, relation: &Relation) -> bool
     false
 }
 
-/// Whether some part of some access has.
+// Whether any access has a part with more than `most` of them.
 fn accesses_pass(count: PartCount, most: usize, accesses: &[(AccessKind, Relation)]) -> bool
     ensures { result ≡ accesses_above count most accesses.now }
 {
@@ -53,7 +53,7 @@ fn accesses_pass(count: PartCount, most: usize, accesses: &[(AccessKind, Relatio
     false
 }
 
-/// Whether some part of some relation of a statement has.
+// Whether any relation of a statement has a part with more than `most` of them.
 fn statement_passes(count: PartCount, most: usize, raw: &RawStatement) -> bool
     ensures { result ≡ statement_above count most raw.now }
 {
@@ -62,7 +62,7 @@ fn statement_passes(count: PartCount, most: usize, raw: &RawStatement) -> bool
         || accesses_pass(count, most, raw.accesses.as_slice())
 }
 
-/// Whether some access has more than 64 parts.
+// Whether any access has more than 64 parts.
 fn accesses_have_many(accesses: &[(AccessKind, Relation)]) -> bool
     ensures { result ≡ accesses_many accesses.now }
 {
@@ -74,7 +74,7 @@ fn accesses_have_many(accesses: &[(AccessKind, Relation)]) -> bool
     false
 }
 
-/// Whether some relation of a statement has.
+// Whether any relation of a statement has more than 64 parts.
 fn has_many(raw: &RawStatement) -> bool
     ensures { result ≡ has_many_parts raw.now }
 {
@@ -83,7 +83,7 @@ fn has_many(raw: &RawStatement) -> bool
         || accesses_have_many(raw.accesses.as_slice())
 }
 
-/// The first limit that statement number `k` passes.
+// The first limit that statement number `k` passes.
 fn passed_limit(k: u32, raw: &RawStatement) -> Option<Refusal>
     ensures { result ≡ statement_limit k raw.now }
 {
@@ -125,7 +125,7 @@ pub fn statements_limit(raws: &[RawStatement]) -> Option<Refusal>
     None
 }
 
-/// The number of arrays that are present.
+// The number of arrays that are present.
 fn count_arrays(arrays: &Option<List<(Coeff, Text)>>) -> usize
     ensures { result ≡ array_count arrays.now }
 {

@@ -48,7 +48,7 @@ impl Model for Scop {
     ghost invariant = { λ s. IsValid (record { language = s.language; context = s.context; parameters = s.parameters; statements = s.statements; arrays = s.arrays; extensions = s.extensions }) };
 }
 
-/// The first limit that the pieces pass, or else the first statement that is not solved.
+// The first limit that the pieces pass, or else the first statement that is not solved.
 fn early_refusal(alloc: Global, pieces: &ScopPieces) -> Result<Option<Refusal>, NoMemory>
     ensures answer { IfOk result (λ refusal. refusal ≡ early_refusal_of pieces.now) }
     ensures few { IfOk result (λ refusal. refusal ≡ None → length pieces.now.statements ≤ 1024) }
@@ -65,7 +65,7 @@ fn early_refusal(alloc: Global, pieces: &ScopPieces) -> Result<Option<Refusal>, 
     unsolved_statement(alloc, raws)
 }
 
-/// The statements of the pieces, in solved form.
+// The statements of the pieces, in solved form.
 fn solved(alloc: Global, pieces: &ScopPieces) -> Result<List<Statement>, NoMemory>
     requires shapes { All (HasShapes pieces.now.context.shape.parameters) pieces.now.statements }
     requires solved { first_unsolved 1 pieces.now.statements ≡ None }

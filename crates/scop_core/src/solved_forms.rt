@@ -1,4 +1,4 @@
-//! Scatterings and accesses in solved form: whether a part is one, and the schedule or access that it is.
+//! Scatterings and accesses in solved form: whether a part is one, and the schedule or access that it encodes.
 
 ghost use Rattle.std.specs.Prelude.{◌≡◌, ◌==◌, ◌<◌, ◌≤◌, ◌+◌, ◌-◌, ◌*◌, ◌/◌, ◌%◌, pos, int_le, ◌&&◌, length, count_by, true, [], ◌∷◌, ◌++◌, All, IfOk, OnOk};
 ghost use Rattle.scop_core.specs.SolvedForm.{is_low_row, is_high_row, is_pair, size_at, low_row_of, high_row_of, value_at, has_output, has_floor, has_beta, floor_at, is_constant, is_scattering, is_access, each_below, levels_from, betas_from, floors_from, values_from, schedule_of, access_of};
@@ -17,7 +17,7 @@ use row_core::Coeff;
 use std::alloc::Global;
 use suite_base::{List, NoMemory};
 
-/// Whether exactly one row gives the output at place `k`.
+// Whether exactly one row gives the output at place `k`.
 fn has_one_row(part: &Part, k: usize) -> bool
     requires { k < part.now.shape.outputs }
     ensures { result ≡ has_output part.now k }
@@ -25,7 +25,7 @@ fn has_one_row(part: &Part, k: usize) -> bool
     output_rows(part, k) == 1
 }
 
-/// Whether the rows that were found for a floor belong together.
+// Whether the rows that were found for a floor belong together.
 fn has_pair(part: &Part, k: usize) -> bool
     requires place { k < part.now.shape.locals }
     requires low { count_by (is_low_row part.now.shape k) part.now.rows ≡ 1 }
@@ -42,7 +42,7 @@ fn has_pair(part: &Part, k: usize) -> bool
     }
 }
 
-/// Whether exactly two rows, which belong together, give the floor of the local at place `k`.
+// Whether exactly two rows, which belong together, give the floor of the local at place `k`.
 fn has_two_rows(part: &Part, k: usize) -> bool
     requires { k < part.now.shape.locals }
     ensures { result ≡ has_floor part.now k }
@@ -50,14 +50,14 @@ fn has_two_rows(part: &Part, k: usize) -> bool
     low_rows(part, k) == 1 && high_rows(part, k) == 1 && has_pair(part, k)
 }
 
-/// Whether `value` is a constant.
+// Whether `value` is a constant.
 fn is_constant_value(value: &Affine) -> bool
     ensures { result ≡ is_constant value.now }
 {
     are_zero(value.iterators()) && are_zero(value.floors()) && are_zero(value.parameters())
 }
 
-/// Whether the output at place `2 k` is a constant.
+// Whether the output at place `2 k` is a constant.
 fn has_constant(alloc: Global, part: &Part, k: usize) -> Result<bool, NoMemory>
     requires place { 2 * k < part.now.shape.outputs }
     requires given { has_output part.now (2 * k) ≡ true }
@@ -68,7 +68,7 @@ fn has_constant(alloc: Global, part: &Part, k: usize) -> Result<bool, NoMemory>
     Ok(is_constant_value(&value))
 }
 
-/// Whether each output has exactly one row.
+// Whether each output has exactly one row.
 #[tactic(auto, using(crate::proofs::SolvedForms::each_more))]
 fn has_outputs(part: &Part) -> bool
     ensures { result ≡ each_below (has_output part.now) part.now.shape.outputs }
@@ -80,7 +80,7 @@ fn has_outputs(part: &Part) -> bool
     good
 }
 
-/// Whether each local has its two rows.
+// Whether each local has its two rows.
 #[tactic(auto, using(crate::proofs::SolvedForms::each_more))]
 fn has_floors(part: &Part) -> bool
     ensures { result ≡ each_below (has_floor part.now) part.now.shape.locals }
@@ -92,7 +92,7 @@ fn has_floors(part: &Part) -> bool
     good
 }
 
-/// Whether each of the first `n` outputs at even places is a constant.
+// Whether each of the first `n` outputs at even places is a constant.
 #[tactic(auto, using(crate::proofs::SolvedForms::each_more))]
 fn has_constants(alloc: Global, part: &Part, n: usize) -> Result<bool, NoMemory>
     requires places { 2 * n ≤ part.now.shape.outputs + 1 }
@@ -120,7 +120,7 @@ pub fn solves_schedule(alloc: Global, part: &Part) -> Result<bool, NoMemory>
     has_constants(alloc, part, outputs / 2 + 1)
 }
 
-/// Appends the value of the output at place `2 k + 1`.
+// Appends the value of the output at place `2 k + 1`.
 fn push_level(alloc: Global, part: &Part, k: usize, made: &mut List<Affine>) -> Result<(), NoMemory>
     requires place { 2 * k + 1 < part.now.shape.outputs }
     requires given { has_output part.now (2 * k + 1) ≡ true }
@@ -133,7 +133,7 @@ fn push_level(alloc: Global, part: &Part, k: usize, made: &mut List<Affine>) -> 
     Ok(())
 }
 
-/// The values of the outputs at places `2 k + 1`, for `n` numbers from 0 on.
+// The values of the outputs at places `2 k + 1`, for `n` numbers from 0 on.
 fn levels_of(alloc: Global, part: &Part, n: usize) -> Result<List<Affine>, NoMemory>
     requires places { 2 * n < part.now.shape.outputs + 1 }
     requires given { each_below (has_output part.now) part.now.shape.outputs ≡ true }
@@ -148,7 +148,7 @@ fn levels_of(alloc: Global, part: &Part, n: usize) -> Result<List<Affine>, NoMem
     Ok(made)
 }
 
-/// Appends the constant of the output at place `2 k`.
+// Appends the constant of the output at place `2 k`.
 fn push_beta(alloc: Global, part: &Part, k: usize, made: &mut List<Coeff>) -> Result<(), NoMemory>
     requires place { 2 * k < part.now.shape.outputs }
     requires given { has_output part.now (2 * k) ≡ true }
@@ -160,7 +160,7 @@ fn push_beta(alloc: Global, part: &Part, k: usize, made: &mut List<Coeff>) -> Re
     Ok(())
 }
 
-/// The constants of the outputs at places `2 k`, for `n` numbers from 0 on.
+// The constants of the outputs at places `2 k`, for `n` numbers from 0 on.
 fn betas_of(alloc: Global, part: &Part, n: usize) -> Result<List<Coeff>, NoMemory>
     requires places { 2 * n ≤ part.now.shape.outputs + 1 }
     requires given { each_below (has_output part.now) part.now.shape.outputs ≡ true }
@@ -174,7 +174,7 @@ fn betas_of(alloc: Global, part: &Part, n: usize) -> Result<List<Coeff>, NoMemor
     Ok(made)
 }
 
-/// Appends the floor of the local at place `k`, behind those of the locals before it.
+// Appends the floor of the local at place `k`, behind those of the locals before it.
 #[tactic(auto, using(crate::proofs::SolvedForms::pairs_push))]
 fn push_floor(alloc: Global, part: &Part, k: usize, made: &mut List<Floor>) -> Result<(), NoMemory>
     requires place { k < part.now.shape.locals }
@@ -189,7 +189,7 @@ fn push_floor(alloc: Global, part: &Part, k: usize, made: &mut List<Floor>) -> R
     Ok(())
 }
 
-/// The floors of all locals, of which there are `n`.
+// The floors of all locals, of which there are `n`.
 fn floors_of(alloc: Global, part: &Part, n: usize) -> Result<List<Floor>, NoMemory>
     requires all { n ≡ part.now.shape.locals }
     requires given { each_below (has_floor part.now) n ≡ true }
@@ -205,7 +205,7 @@ fn floors_of(alloc: Global, part: &Part, n: usize) -> Result<List<Floor>, NoMemo
     Ok(made)
 }
 
-/// The schedule that a part is whose outputs are odd and whose floors have their rows.
+// The schedule encoded by a part with an odd number of outputs, whose floors have their rows.
 fn schedule_with(alloc: Global, part: &Part) -> Result<Schedule, NoMemory>
     requires odd { part.now.shape.outputs % 2 ≡ 1 }
     requires given { each_below (has_output part.now) part.now.shape.outputs ≡ true }
@@ -221,7 +221,7 @@ fn schedule_with(alloc: Global, part: &Part) -> Result<Schedule, NoMemory>
     })
 }
 
-/// The schedule that a scattering in solved form is.
+/// The schedule encoded by a scattering in solved form.
 pub fn solved_schedule(alloc: Global, part: &Part) -> Result<Schedule, NoMemory>
     requires { is_scattering part.now ≡ true }
     ensures schedule { IfOk result (λ schedule. schedule ≡ schedule_of part.now) }
@@ -230,7 +230,7 @@ pub fn solved_schedule(alloc: Global, part: &Part) -> Result<Schedule, NoMemory>
     schedule_with(alloc, part)
 }
 
-/// Whether the first output is a constant of at least 1.
+// Whether the first output is a constant of at least 1.
 fn has_identifier(alloc: Global, part: &Part) -> Result<bool, NoMemory>
     requires some { 1 ≤ part.now.shape.outputs }
     requires given { each_below (has_output part.now) part.now.shape.outputs ≡ true }
@@ -254,7 +254,7 @@ pub fn solves_access(alloc: Global, part: &Part) -> Result<bool, NoMemory>
     has_identifier(alloc, part)
 }
 
-/// Appends the value of the output at place `k + 1`.
+// Appends the value of the output at place `k + 1`.
 fn push_subscript(
     alloc: Global,
     part: &Part,
@@ -272,7 +272,7 @@ fn push_subscript(
     Ok(())
 }
 
-/// The values of `n` outputs behind the first.
+// The values of `n` outputs behind the first.
 fn subscripts_of(alloc: Global, part: &Part, n: usize) -> Result<List<Affine>, NoMemory>
     requires places { n < part.now.shape.outputs }
     requires given { each_below (has_output part.now) part.now.shape.outputs ≡ true }
@@ -287,7 +287,7 @@ fn subscripts_of(alloc: Global, part: &Part, n: usize) -> Result<List<Affine>, N
     Ok(made)
 }
 
-/// The access of this kind that a part without locals and with some output is.
+// The access of this kind encoded by a part without locals that has an output.
 fn access_with(alloc: Global, kind: AccessKind, part: &Part) -> Result<Access, NoMemory>
     requires outputs { 1 ≤ part.now.shape.outputs }
     requires given { each_below (has_output part.now) part.now.shape.outputs ≡ true }
@@ -305,7 +305,7 @@ fn access_with(alloc: Global, kind: AccessKind, part: &Part) -> Result<Access, N
     })
 }
 
-/// The access of this kind that an access relation in solved form is.
+/// The access of this kind encoded by an access relation in solved form.
 pub fn solved_access(alloc: Global, kind: AccessKind, part: &Part) -> Result<Access, NoMemory>
     requires { is_access part.now ≡ true }
     ensures access { IfOk result (λ access. access ≡ access_of kind part.now) }

@@ -14,7 +14,7 @@ use row_core::{Coeff, DenseRow};
 use std::alloc::Global;
 use suite_base::NoMemory;
 
-/// Appends the row `-output + value = 0` of the output at place `output`.
+// Appends the row `-output + value = 0` of the output at place `output`.
 fn push_value_row(
     alloc: Global,
     part: &mut Part,
@@ -36,7 +36,7 @@ fn push_value_row(
     part.push_row(RowKind::Equal, row.as_slice())
 }
 
-/// Appends the row `-output + constant = 0` of the output at place `output`.
+// Appends the row `-output + constant = 0` of the output at place `output`.
 fn push_constant_row(
     alloc: Global,
     part: &mut Part,
@@ -57,7 +57,7 @@ fn push_constant_row(
     part.push_row(RowKind::Equal, row.as_slice())
 }
 
-/// Appends the row `value - size * local >= 0` of the local at place `local`.
+// Appends the row `value - size * local >= 0` of the local at place `local`.
 fn push_low_row(alloc: Global, part: &mut Part, local: usize, floor: &Floor) -> Result<(), NoMemory>
     requires local { local < part.old.shape.locals }
     requires sizes { HasSizes part.old.shape.inputs part.old.shape.locals part.old.shape.parameters floor.now.value }
@@ -76,7 +76,7 @@ fn push_low_row(alloc: Global, part: &mut Part, local: usize, floor: &Floor) -> 
     part.push_row(RowKind::AtLeast, row.as_slice())
 }
 
-/// Appends the row `-value + size * local + size - 1 >= 0` of the local at place `local`.
+// Appends the row `-value + size * local + size - 1 >= 0` of the local at place `local`.
 fn push_high_row(
     alloc: Global,
     part: &mut Part,
@@ -100,7 +100,7 @@ fn push_high_row(
     part.push_row(RowKind::AtLeast, row.as_slice())
 }
 
-/// `-constant + size - 1`, which is in range.
+// `-constant + size - 1`, which is in range.
 fn remainder_constant(constant: Coeff, size: Coeff) -> Coeff
     requires { unsigned_abs ((neg_ℤ constant +ℤ size) +ℤ negsuc 0) < 2 ^ 127 }
     ensures { result ≡ (neg_ℤ constant +ℤ size) +ℤ negsuc 0 }
@@ -108,7 +108,7 @@ fn remainder_constant(constant: Coeff, size: Coeff) -> Coeff
     Coeff::bounded(size.value() - 1 - constant.value())
 }
 
-/// Appends the rows of betas and levels in turn.
+// Appends the rows of betas and levels in turn.
 fn push_dimension_rows(alloc: Global, part: &mut Part, schedule: &Schedule) -> Result<(), NoMemory>
     requires shape { part.old.shape ≡ schedule_shape part.old.shape.inputs part.old.shape.parameters schedule.now }
     requires printable { HasRelation part.old.shape.inputs part.old.shape.parameters schedule.now }
@@ -124,7 +124,7 @@ fn push_dimension_rows(alloc: Global, part: &mut Part, schedule: &Schedule) -> R
     push_constant_row(alloc, part, 2 * levels.len(), betas[levels.len()])
 }
 
-/// Appends the two rows of each floor.
+// Appends the two rows of each floor.
 fn push_floor_rows(alloc: Global, part: &mut Part, schedule: &Schedule) -> Result<(), NoMemory>
     requires locals { part.old.shape.locals ≡ length schedule.now.floors }
     requires printable { HasRelation part.old.shape.inputs part.old.shape.parameters schedule.now }
@@ -139,7 +139,7 @@ fn push_floor_rows(alloc: Global, part: &mut Part, schedule: &Schedule) -> Resul
     Ok(())
 }
 
-/// Appends the rows of the subscripts of an access.
+// Appends the rows of the subscripts of an access.
 fn push_subscript_rows(alloc: Global, part: &mut Part, access: &Access) -> Result<(), NoMemory>
     requires shape { part.old.shape ≡ access_shape part.old.shape.inputs part.old.shape.parameters access.now }
     requires printable { HasAccessRelation part.old.shape.inputs part.old.shape.parameters access.now }
@@ -153,7 +153,7 @@ fn push_subscript_rows(alloc: Global, part: &mut Part, access: &Access) -> Resul
     Ok(())
 }
 
-/// The relation of one part.
+// The relation of one part.
 fn relation_of(alloc: Global, part: Part) -> Result<Relation, NoMemory>
     ensures { IfOk result (λ relation. relation ≡ part ∷ []) }
 {

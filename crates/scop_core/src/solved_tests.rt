@@ -80,7 +80,7 @@ pub fn gives_output(k: usize, row: &PartRow) -> bool
     is_equal(row.kind) && row.entries.get(k).value().unsigned_abs() != 0
 }
 
-/// Whether `row` is an inequality whose last local stands at place `k`.
+// Whether `row` is an inequality whose last local stands at place `k`.
 fn ends_at_local(shape: Shape, k: usize, row: &PartRow) -> bool
     requires limits { HasLimits shape }
     requires place { k < shape.locals }
@@ -112,7 +112,7 @@ pub fn closes_floor(shape: Shape, k: usize, row: &PartRow) -> bool
     ends_at_local(shape, k, row) && 0 < row.entries.get(column_of(shape, k)).value()
 }
 
-/// Whether `a` is the negative of `b`.
+// Whether `a` is the negative of `b`.
 fn is_opposite(a: &[Coeff], b: &[Coeff]) -> bool
     requires { length a.now ≡ length b.now }
     ensures { result ≡ are_opposite a.now b.now }
@@ -125,7 +125,7 @@ fn is_opposite(a: &[Coeff], b: &[Coeff]) -> bool
     true
 }
 
-/// Whether `high` is `-low + size - 1`, for a size of at least 1.
+// Whether `high` is `-low + size - 1`, for a size of at least 1.
 #[tactic(auto, using(crate::proofs::SolvedForms::int_eq_decides))]
 fn is_remainder(high: Coeff, low: Coeff, size: Coeff) -> bool
     requires { pos 1 ≤ℤ size }

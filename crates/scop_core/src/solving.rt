@@ -18,7 +18,7 @@ use row_core::{Coeff, DenseRow, negated};
 use std::alloc::Global;
 use suite_base::NoMemory;
 
-/// Row `i` of a part, from 0.
+// Row `i` of a part, from 0.
 fn row_of(part: &Part, i: usize) -> &PartRow
     requires { i < length part.now.rows }
     ensures answer { result.now ≡ row_at part.now.rows i }
@@ -98,7 +98,7 @@ pub fn high_rows(part: &Part, k: usize) -> usize
     count
 }
 
-/// The first row that gives the output at place `k`.
+// The first row that gives the output at place `k`.
 fn find_output(part: &Part, k: usize) -> Option<&PartRow>
     requires { k < width part.now.shape }
     ensures { MatchOption result (count_by (is_output_row k) part.now.rows ≡ 0) (λ row. (row.now ≡ output_row part.now k) × (length row.now.entries ≡ width part.now.shape)) }
@@ -142,7 +142,7 @@ pub fn find_high(part: &Part, k: usize) -> Option<&PartRow>
     None
 }
 
-/// The affine value of a row's coefficients behind its outputs.
+// The affine value of a row's coefficients behind its outputs.
 fn affine_from(alloc: Global, shape: Shape, row: &[Coeff]) -> Result<Affine, NoMemory>
     requires limits { HasLimits shape }
     requires wide { length row.now ≡ width shape }
@@ -180,7 +180,7 @@ pub fn value_of(alloc: Global, part: &Part, k: usize) -> Result<Affine, NoMemory
     }
 }
 
-/// The row with 0 at place `k`.
+// The row with 0 at place `k`.
 fn without(alloc: Global, row: &[Coeff], k: usize) -> Result<DenseRow, NoMemory>
     requires { k < length row.now }
     ensures { IfOk result (λ made. made ≡ cleared row.now k) }
@@ -192,7 +192,7 @@ fn without(alloc: Global, row: &[Coeff], k: usize) -> Result<DenseRow, NoMemory>
     Ok(made)
 }
 
-/// The form of the floor of the local at place `k`, whose lower row is `row`.
+// The form of the floor of the local at place `k`, whose lower row is `row`.
 fn form_of(alloc: Global, part: &Part, k: usize, row: &PartRow) -> Result<Affine, NoMemory>
     requires place { k < part.now.shape.locals }
     requires wide { length row.now.entries ≡ width part.now.shape }
@@ -204,7 +204,7 @@ fn form_of(alloc: Global, part: &Part, k: usize, row: &PartRow) -> Result<Affine
     affine_from(alloc, shape, form.as_slice())
 }
 
-/// The size of that floor.
+// The size of that floor.
 fn size_of_floor(part: &Part, k: usize, row: &PartRow) -> Coeff
     requires place { k < part.now.shape.locals }
     requires wide { length row.now.entries ≡ width part.now.shape }
@@ -216,7 +216,7 @@ fn size_of_floor(part: &Part, k: usize, row: &PartRow) -> Coeff
     size
 }
 
-/// The constant of a row of `part`.
+// The constant of a row of `part`.
 fn constant_of(part: &Part, row: &PartRow) -> Coeff
     requires { length row.now.entries ≡ width part.now.shape }
     ensures value { result ≡ entry row.now.entries (columns part.now.shape) }
@@ -227,7 +227,7 @@ fn constant_of(part: &Part, row: &PartRow) -> Coeff
     constant
 }
 
-/// The floor of the local at place `k`, which these two rows give.
+// The floor of the local at place `k`, which these two rows give.
 fn floor_of_rows(
     alloc: Global,
     part: &Part,

@@ -49,7 +49,7 @@ impl Statement {
     }
 }
 
-/// The accesses as relations of one part.
+// The accesses as relations of one part.
 fn access_pieces(
     alloc: Global,
     accesses: &[Access],
@@ -67,7 +67,7 @@ fn access_pieces(
     Ok(made)
 }
 
-/// The arrays of a SCoP, of which there are `n`.
+// The arrays of a SCoP, of which there are `n`.
 fn array_list(alloc: Global, scop: &Scop, n: usize) -> Result<List<(Coeff, Text)>, NoMemory>
     requires { n ≡ length (arrays_of scop.now) }
     ensures { IfOk result (λ made. made ≡ arrays_of scop.now) }
@@ -79,7 +79,7 @@ fn array_list(alloc: Global, scop: &Scop, n: usize) -> Result<List<(Coeff, Text)
     Ok(made)
 }
 
-/// Appends an array.
+// Appends an array.
 fn push_named(
     alloc: Global,
     identifier: Coeff,
@@ -93,7 +93,7 @@ fn push_named(
     Ok(())
 }
 
-/// Appends the array at place `k`.
+// Appends the array at place `k`.
 fn push_array(
     alloc: Global,
     scop: &Scop,
@@ -113,7 +113,7 @@ fn push_array(
     }
 }
 
-/// The arrays, where they are present.
+// The arrays, where they are present.
 fn copied_arrays(alloc: Global, scop: &Scop) -> Result<Option<List<(Coeff, Text)>>, NoMemory>
     ensures { IfOk result (λ made. made ≡ scop.now.arrays) }
 {
@@ -143,7 +143,7 @@ impl Scop {
     }
 }
 
-/// The names of the parameters, where they are present.
+// The names of the parameters, where they are present.
 fn copied_names_of(alloc: Global, scop: &Scop) -> Result<Option<List<Text>>, NoMemory>
     ensures { IfOk result (λ made. made ≡ scop.now.parameters) }
 {

@@ -18,7 +18,7 @@ use scop_core::Extension;
 use std::alloc::Global;
 use suite_base::{Fail, List, Refusal, Text, Which};
 
-/// The array of a line: an identifier of at least 1, and a name.
+// The array of a line: an identifier of at least 1, and a name.
 fn array_of(alloc: Global, line: &TextLine<'_>) -> Result<(Coeff, Text), Fail>
     ensures { Gives (spec.array_of line.now (words_of line.now.bytes)) result }
 {
@@ -37,7 +37,7 @@ fn array_of(alloc: Global, line: &TextLine<'_>) -> Result<(Coeff, Text), Fail>
     Ok((identifier, name))
 }
 
-/// Whether no array has this identifier.
+// Whether no array has this identifier.
 fn is_new(arrays: &[(Coeff, Text)], identifier: Coeff) -> bool
     ensures { result ≡ has_no_array identifier arrays.now }
 {
@@ -49,7 +49,7 @@ fn is_new(arrays: &[(Coeff, Text)], identifier: Coeff) -> bool
     true
 }
 
-/// Takes the line of an array whose identifier none of these has.
+// Takes the line of an array whose identifier none of these has.
 #[tactic(auto, unfolding(crate::specs::Rules::array_line))]
 fn array_line(
     alloc: Global,
@@ -66,7 +66,7 @@ fn array_line(
     Ok(array)
 }
 
-/// Takes the lines of so many arrays.
+// Takes the lines of so many arrays.
 fn array_lines(
     alloc: Global,
     cursor: &mut Cursor<'_>,
@@ -82,7 +82,7 @@ fn array_lines(
     Ok(found)
 }
 
-/// Takes the arrays, at most 4,096, behind their opening line.
+// Takes the arrays, at most 4,096, behind their opening line.
 #[tactic(auto, unfolding(crate::specs::Rules::arrays))]
 fn arrays(alloc: Global, cursor: &mut Cursor<'_>) -> Result<List<(Coeff, Text)>, Fail>
     ensures { Reads (spec.arrays cursor.old) result cursor.new }
@@ -96,7 +96,7 @@ fn arrays(alloc: Global, cursor: &mut Cursor<'_>) -> Result<List<(Coeff, Text)>,
     Ok(found)
 }
 
-/// Takes a global extension: the arrays, at most once, or one that is kept.
+// Takes a global extension: the arrays, at most once, or one that is kept.
 #[tactic(auto, unfolding(crate::specs::Rules::extension))]
 fn global(
     alloc: Global,

@@ -19,7 +19,7 @@ pub fn names(alloc: Global, cursor: &mut Cursor<'_>, count: usize) -> Result<Lis
     word_line(alloc, cursor, count)
 }
 
-/// Refuses a next line that is the one that ends a body.
+// Refuses a next line that is the one that ends a body.
 #[tactic(auto, unfolding(crate::specs::Rules::no_end))]
 fn no_end(cursor: &Cursor<'_>) -> Result<(), Fail>
     ensures { Reads (spec.no_end cursor.now) result cursor.now }
@@ -30,7 +30,7 @@ fn no_end(cursor: &Cursor<'_>) -> Result<(), Fail>
     Ok(())
 }
 
-/// Takes the names of so many iterators; there is no line where there are none.
+// Takes the names of so many iterators; there is no line where there are none.
 fn iterator_names(alloc: Global, cursor: &mut Cursor<'_>, count: usize) -> Result<List<Text>, Fail>
     ensures { Reads (spec.iterator_names count cursor.old) result cursor.new }
 {
@@ -41,7 +41,7 @@ fn iterator_names(alloc: Global, cursor: &mut Cursor<'_>, count: usize) -> Resul
     word_line(alloc, cursor, count)
 }
 
-/// Takes the text of a body.
+// Takes the text of a body.
 #[tactic(auto, unfolding(crate::specs::Rules::body_text))]
 fn body_text(alloc: Global, cursor: &mut Cursor<'_>) -> Result<Text, Fail>
     ensures { Reads (spec.body_text cursor.old) result cursor.new }

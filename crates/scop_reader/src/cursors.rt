@@ -69,7 +69,7 @@ impl<'a> Cursor<'a> {
         Some(line)
     }
 
-    /// Takes the next line that says something: one with more than blanks and a comment.
+    // Takes the next line that says something: one with more than blanks and a comment.
     fn next_said_line(&mut self) -> Option<TextLine<'a>>
         ensures { TakesLine (behind_silent self.old.number self.old.lines) result self.new }
     {

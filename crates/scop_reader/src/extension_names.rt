@@ -7,14 +7,14 @@ ghost use Rattle.scop_reader.specs.Rules as spec;
 
 use suite_base::is_digit_byte;
 
-/// Whether `byte` is a letter or `_`.
+// Whether `byte` is a letter or `_`.
 fn is_letter_byte(byte: u8) -> bool
     ensures { result ≡ is_letter byte }
 {
     (b'A' <= byte && byte <= b'Z') || (b'a' <= byte && byte <= b'z') || byte == b'_'
 }
 
-/// Whether all bytes are letters, digits and `_`.
+// Whether all bytes are letters, digits and `_`.
 fn are_name_bytes(bytes: &[u8]) -> bool
     ensures { result ≡ are_letters_or_digits bytes.now }
 {
@@ -28,7 +28,7 @@ fn are_name_bytes(bytes: &[u8]) -> bool
     true
 }
 
-/// Whether `name` has letters, digits and `_`, and begins with no digit.
+// Whether `name` has letters, digits and `_`, and begins with no digit.
 fn is_name(name: &[u8]) -> bool
     ensures { result ≡ is_extension_name name.now }
 {
@@ -48,7 +48,7 @@ pub fn opened_name(line: &[u8]) -> &[u8]
     }
 }
 
-/// Whether the first byte is `<`, and another one, the last, is `>`.
+// Whether the first byte is `<`, and another one, the last, is `>`.
 fn is_bracketed(line: &[u8]) -> bool
     ensures { result ≡ bytes_eq line.now (60 ∷ spec.opened_name line.now ++ 62 ∷ []) }
 {

@@ -74,7 +74,7 @@ impl PartHeader {
     }
 }
 
-/// Takes a word, which there has to be, as a number that is not negative.
+// Takes a word, which there has to be, as a number that is not negative.
 fn next_count(line: &TextLine<'_>, words: &mut LineWords<'_>) -> Result<u128, Fail>
     requires { 0 < length words.old }
     ensures number { TakesCount line.now words.old result words.new }
@@ -86,7 +86,7 @@ fn next_count(line: &TextLine<'_>, words: &mut LineWords<'_>) -> Result<u128, Fa
     }
 }
 
-/// The six numbers of a line of six words.
+// The six numbers of a line of six words.
 fn counts_of(line: &TextLine<'_>) -> Result<Counts, Fail>
     requires { length (words_of line.now.bytes) ≡ 6 }
     ensures { Gives (mapped (λ ns. spec.header_of (spec.naturals ns)) (numbers_in line.now is_count (words_of line.now.bytes))) result }
@@ -108,7 +108,7 @@ fn counts_of(line: &TextLine<'_>) -> Result<Counts, Fail>
     })
 }
 
-/// Takes a line of six numbers that are not negative.
+// Takes a line of six numbers that are not negative.
 #[tactic(auto, unfolding(crate::specs::Rules::number_line, crate::specs::Rules::counts_line))]
 fn counts_line<'a>(cursor: &mut Cursor<'a>) -> Result<(TextLine<'a>, Counts), Fail>
     ensures { Reads (spec.counts_line cursor.old) result cursor.new }
@@ -121,7 +121,7 @@ fn counts_line<'a>(cursor: &mut Cursor<'a>) -> Result<(TextLine<'a>, Counts), Fa
     Ok((line, counts))
 }
 
-/// Whether there are as many columns as the shape has, with the kind and the constant.
+// Whether there are as many columns as the shape has, with the kind and the constant.
 fn has_its_columns(counts: &Counts) -> bool
     ensures { result ≡ (counts.now.columns == columns counts.now.shape + 2) }
 {
@@ -141,7 +141,7 @@ fn has_its_columns(counts: &Counts) -> bool
     wanted == all
 }
 
-/// Whether the outputs of a part are those of the parts before it.
+// Whether the outputs of a part are those of the parts before it.
 fn is_known(iterators: Option<usize>, outputs: u128) -> bool
     ensures { result ≡ spec.is_known iterators outputs }
 {
@@ -151,7 +151,7 @@ fn is_known(iterators: Option<usize>, outputs: u128) -> bool
     }
 }
 
-/// Whether a part of this role can have this shape.
+// Whether a part of this role can have this shape.
 fn suits(role: Role, counts: &Counts) -> bool
     ensures { result ≡ spec.suits role counts.now.shape }
 {
@@ -176,7 +176,7 @@ fn suits(role: Role, counts: &Counts) -> bool
     }
 }
 
-/// The most outputs of a part of this role.
+// The most outputs of a part of this role.
 fn most_outputs(role: Role) -> u128
     ensures { result ≡ spec.most_outputs role }
 {
@@ -188,7 +188,7 @@ fn most_outputs(role: Role) -> u128
     }
 }
 
-/// What the outputs of a part of this role are.
+// What the outputs of a part of this role are.
 fn outputs_are(role: Role) -> Which
     ensures { result ≡ spec.outputs_are role }
 {
@@ -199,7 +199,7 @@ fn outputs_are(role: Role) -> Which
     }
 }
 
-/// The first limit that a header passes, of statement `k` or of the whole where `k` is 0.
+// The first limit that a header passes, of statement `k` or of the whole where `k` is 0.
 fn header_limit(role: Role, k: u32, counts: &Counts) -> Option<Refusal>
     ensures { result ≡ spec.header_limit role k counts.now }
 {
@@ -218,7 +218,7 @@ fn header_limit(role: Role, k: u32, counts: &Counts) -> Option<Refusal>
     None
 }
 
-/// The header of numbers that are small.
+// The header of numbers that are small.
 fn header_from(counts: &Counts) -> PartHeader
     requires { IsSmall counts.now }
     ensures { result ≡ counts.now }

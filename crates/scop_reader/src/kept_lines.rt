@@ -10,7 +10,7 @@ use scop_core::Extension;
 use std::alloc::Global;
 use suite_base::{Fail, List, NoMemory, Text, trimmed};
 
-/// The line that ends an extension of this name.
+// The line that ends an extension of this name.
 fn end_of(alloc: Global, name: &[u8]) -> Result<Text, NoMemory>
     ensures { IfOk result (λ text. text ≡ end_line name.now) }
 {
@@ -21,7 +21,7 @@ fn end_of(alloc: Global, name: &[u8]) -> Result<Text, NoMemory>
     Ok(text)
 }
 
-/// Takes the lines up to the one that ends an extension of this name, which is taken too.
+// Takes the lines up to the one that ends an extension of this name, which is taken too.
 #[tactic(auto, unfolding(crate::specs::Rules::kept_lines))]
 fn kept_lines(alloc: Global, cursor: &mut Cursor<'_>, name: &[u8]) -> Result<List<Text>, Fail>
     ensures { Reads (spec.kept_lines name.now cursor.old) result cursor.new }

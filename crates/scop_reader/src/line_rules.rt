@@ -37,7 +37,7 @@ pub fn closing(cursor: &mut Cursor<'_>, text: &[u8]) -> Result<(), Fail>
     Ok(())
 }
 
-/// The words of a line, as texts.
+// The words of a line, as texts.
 fn texts_of(alloc: Global, line: &TextLine<'_>) -> Result<List<Text>, NoMemory>
     ensures { IfOk result (λ texts. texts ≡ word_bytes (words_of line.now.bytes)) }
 {
@@ -62,7 +62,7 @@ pub fn word_line(alloc: Global, cursor: &mut Cursor<'_>, count: usize) -> Result
     Ok(texts)
 }
 
-/// The first word of a line that has one.
+// The first word of a line that has one.
 fn first_word(alloc: Global, line: &TextLine<'_>) -> Result<Text, NoMemory>
     ensures { IfOk result (λ text. text ≡ spec.first_of (word_bytes (words_of line.now.bytes))) }
 {
@@ -98,7 +98,7 @@ pub fn count_line<'a>(cursor: &mut Cursor<'a>, least: u8) -> Result<(TextLine<'a
     Ok((line, number.value().unsigned_abs()))
 }
 
-/// The word of a line that has one word.
+// The word of a line that has one word.
 fn lone_word<'a>(line: &TextLine<'a>) -> Option<TextWord<'a>>
     ensures { MatchOption result ((length (words_of line.now.bytes) == 1) ≡ false) (λ word. words_of line.now.bytes ≡ word ∷ []) }
 {

@@ -58,7 +58,7 @@ impl<'a> Model for LineWords<'a> {
     ghost invariant = { λ w. (w.at ≤ length w.line.now) × (length w.line.now < 2 ^ 32) };
 }
 
-/// The part of a line before its first `#`.
+// The part of a line before its first `#`.
 fn before_comment(line: &[u8]) -> &[u8]
     ensures value { result.now ≡ without_comment line.now }
     ensures size { length result.now ≤ length line.now }
@@ -67,7 +67,7 @@ fn before_comment(line: &[u8]) -> &[u8]
     front
 }
 
-/// The number of bytes before the first `#`.
+// The number of bytes before the first `#`.
 fn comment_start(line: &[u8]) -> usize
     ensures { result ≡ prefix_len (λ b. not (b == 35)) line.now }
 {

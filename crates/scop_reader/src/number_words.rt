@@ -12,7 +12,7 @@ use relation_core::RowKind;
 use row_core::Coeff;
 use suite_base::{Fail, NumberRead, Place, Refusal, read_number};
 
-/// The refusal of a number out of the range of a coefficient.
+// The refusal of a number out of the range of a coefficient.
 fn too_large(line: &TextLine<'_>, word: &TextWord<'_>) -> Fail
     ensures { result ≡ Fail.Refused (Refusal.NumberTooLarge (place_of line.now word.now)) }
 {

@@ -19,7 +19,7 @@ use row_core::Coeff;
 use std::alloc::Global;
 use suite_base::Fail;
 
-/// Appends a number to `entries`.
+// Appends a number to `entries`.
 fn push_entry(entries: &mut Vec<Coeff>, entry: Coeff) -> Result<(), Fail>
     ensures ok { OnOk result (entries.new.items ≡ entries.old.items ++ entry ∷ []) }
     ensures err { IfErr result (λ e. e ≡ Fail.Memory) }
@@ -30,7 +30,7 @@ fn push_entry(entries: &mut Vec<Coeff>, entry: Coeff) -> Result<(), Fail>
     Ok(())
 }
 
-/// The numbers of the words that are left, put into `entries`, which is empty.
+// The numbers of the words that are left, put into `entries`, which is empty.
 fn push_entries(
     line: &TextLine<'_>,
     words: &mut LineWords<'_>,
@@ -47,7 +47,7 @@ fn push_entries(
     Ok(())
 }
 
-/// The kind of the row that a line has; its other numbers are put into `entries`, which is empty.
+// The kind of the row that a line has; its other numbers are put into `entries`, which is empty.
 fn row_entries(line: &TextLine<'_>, entries: &mut Vec<Coeff>) -> Result<RowKind, Fail>
     requires { entries.old.items ≡ [] }
     ensures row { GivesRow (spec.row_numbers line.now (words_of line.now.bytes)) result entries.new.items }
@@ -62,7 +62,7 @@ fn row_entries(line: &TextLine<'_>, entries: &mut Vec<Coeff>) -> Result<RowKind,
     Ok(kind_from(kind))
 }
 
-/// Takes a row of so many numbers: answers its kind, and puts its other numbers into `entries`.
+// Takes a row of so many numbers: answers its kind, and puts its other numbers into `entries`.
 #[tactic(auto, unfolding(crate::specs::Rules::row_line))]
 fn row(cursor: &mut Cursor<'_>, columns: usize, entries: &mut Vec<Coeff>) -> Result<RowKind, Fail>
     ensures reads { ReadsRow (spec.row_line columns cursor.old) result entries.new.items cursor.new }
@@ -76,7 +76,7 @@ fn row(cursor: &mut Cursor<'_>, columns: usize, entries: &mut Vec<Coeff>) -> Res
     row_entries(&line, entries)
 }
 
-/// The rows of a part behind its header.
+// The rows of a part behind its header.
 fn rows_of(
     cursor: &mut Cursor<'_>,
     columns: usize,

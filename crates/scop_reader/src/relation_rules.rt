@@ -15,7 +15,7 @@ use scop_core::AccessKind;
 use std::alloc::Global;
 use suite_base::{Fail, List, Refusal, Which};
 
-/// Takes the line with the number of parts of a relation of statement `k`, which is at most 64.
+// Takes the line with the number of parts of a relation of statement `k`, which is at most 64.
 #[tactic(auto, unfolding(crate::specs::Rules::part_count))]
 fn part_count(cursor: &mut Cursor<'_>, k: u32) -> Result<usize, Fail>
     ensures { Reads (spec.part_count k cursor.old) result cursor.new }
@@ -27,7 +27,7 @@ fn part_count(cursor: &mut Cursor<'_>, k: u32) -> Result<usize, Fail>
     Ok(count as usize)
 }
 
-/// Takes the number of parts where it is written; else it is 1.
+// Takes the number of parts where it is written; else it is 1.
 #[tactic(auto, unfolding(crate::specs::Rules::counted))]
 fn counted(cursor: &mut Cursor<'_>, k: u32) -> Result<usize, Fail>
     ensures { Reads (spec.counted k cursor.old) result cursor.new }
@@ -38,7 +38,7 @@ fn counted(cursor: &mut Cursor<'_>, k: u32) -> Result<usize, Fail>
     Ok(1)
 }
 
-/// The role of the parts behind a first one.
+// The role of the parts behind a first one.
 fn role_behind(role: Role, first: &Part) -> Role
     requires { IsSmallRole role }
     ensures value { result ≡ spec.role_behind role first.now }
@@ -56,7 +56,7 @@ fn role_behind(role: Role, first: &Part) -> Role
     }
 }
 
-/// Appends a part.
+// Appends a part.
 fn push_part(relation: &mut Relation, part: Part) -> Result<(), Fail>
     ensures ok { OnOk result (relation.new ≡ relation.old ++ part ∷ []) }
     ensures err { IfErr result (λ fail. fail ≡ Fail.Memory) }
@@ -67,7 +67,7 @@ fn push_part(relation: &mut Relation, part: Part) -> Result<(), Fail>
     Ok(())
 }
 
-/// Takes so many parts of this role, of statement `k`.
+// Takes so many parts of this role, of statement `k`.
 fn parts_of(
     alloc: Global,
     cursor: &mut Cursor<'_>,
@@ -89,7 +89,7 @@ fn parts_of(
     Ok(relation)
 }
 
-/// Takes the parts of a relation, behind its type word.
+// Takes the parts of a relation, behind its type word.
 #[tactic(auto, unfolding(crate::specs::Rules::parts))]
 fn parts(
     alloc: Global,
@@ -105,7 +105,7 @@ fn parts(
     parts_of(alloc, cursor, role, k, count, entries)
 }
 
-/// Takes the number of parts of the context, which is 1.
+// Takes the number of parts of the context, which is 1.
 #[tactic(auto, unfolding(crate::specs::Rules::one_part))]
 fn one_part(cursor: &mut Cursor<'_>) -> Result<(), Fail>
     ensures { Reads (spec.one_part cursor.old) result cursor.new }
@@ -117,7 +117,7 @@ fn one_part(cursor: &mut Cursor<'_>) -> Result<(), Fail>
     Ok(())
 }
 
-/// Takes the number of parts of the context where it is written.
+// Takes the number of parts of the context where it is written.
 #[tactic(auto, unfolding(crate::specs::Rules::context_counted))]
 fn context_counted(cursor: &mut Cursor<'_>) -> Result<(), Fail>
     ensures { Reads (spec.context_counted cursor.old) result cursor.new }
@@ -182,7 +182,7 @@ pub fn scattering(
     parts(alloc, cursor, role, k, entries)
 }
 
-/// The kind of access that a type word names.
+// The kind of access that a type word names.
 fn access_kind(word: &[u8]) -> Option<AccessKind>
     ensures { result ≡ spec.access_kind word.now }
 {
@@ -198,7 +198,7 @@ fn access_kind(word: &[u8]) -> Option<AccessKind>
     None
 }
 
-/// Takes the type word of an access.
+// Takes the type word of an access.
 #[tactic(auto, unfolding(crate::specs::Rules::kind_line))]
 fn kind_line(cursor: &mut Cursor<'_>) -> Result<AccessKind, Fail>
     ensures { Reads (spec.kind_line cursor.old) result cursor.new }
@@ -210,7 +210,7 @@ fn kind_line(cursor: &mut Cursor<'_>) -> Result<AccessKind, Fail>
     }
 }
 
-/// Takes an access of statement `k`.
+// Takes an access of statement `k`.
 #[tactic(auto, unfolding(crate::specs::Rules::access))]
 fn access(
     alloc: Global,

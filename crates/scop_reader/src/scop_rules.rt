@@ -15,7 +15,7 @@ use scop_core::ScopPieces;
 use std::alloc::Global;
 use suite_base::{Fail, List, Refusal, Text};
 
-/// Takes the line that opens a SCoP, and the lines before it unread.
+// Takes the line that opens a SCoP, and the lines before it unread.
 fn opening(cursor: &mut Cursor<'_>) -> Result<(), Fail>
     ensures { Reads (spec.opening cursor.old) result cursor.new }
 {
@@ -27,7 +27,7 @@ fn opening(cursor: &mut Cursor<'_>) -> Result<(), Fail>
     Err(bad_line(cursor.number()))
 }
 
-/// Refuses a second line that opens a SCoP.
+// Refuses a second line that opens a SCoP.
 fn no_more(cursor: &Cursor<'_>) -> Result<(), Fail>
     ensures { Reads (spec.no_more cursor.now) result cursor.now }
 {
@@ -40,7 +40,7 @@ fn no_more(cursor: &Cursor<'_>) -> Result<(), Fail>
     Ok(())
 }
 
-/// Takes the names of so many parameters between the lines that hold them.
+// Takes the names of so many parameters between the lines that hold them.
 #[tactic(auto, unfolding(crate::specs::Rules::parameter_names))]
 fn parameter_names(alloc: Global, cursor: &mut Cursor<'_>, count: usize) -> Result<List<Text>, Fail>
     ensures { Reads (spec.parameter_names count cursor.old) result cursor.new }
@@ -51,7 +51,7 @@ fn parameter_names(alloc: Global, cursor: &mut Cursor<'_>, count: usize) -> Resu
     Ok(found)
 }
 
-/// Takes the names of so many parameters, where they are present.
+// Takes the names of so many parameters, where they are present.
 #[tactic(auto, unfolding(crate::specs::Rules::parameters))]
 fn parameters(
     alloc: Global,
@@ -71,7 +71,7 @@ fn parameters(
     Ok(None)
 }
 
-/// Takes a whole text.
+// Takes a whole text.
 #[tactic(auto, unfolding(crate::specs::Rules::scop))]
 fn scop(alloc: Global, cursor: &mut Cursor<'_>) -> Result<ScopPieces, Fail>
     ensures { Reads (spec.scop cursor.old) result cursor.new }

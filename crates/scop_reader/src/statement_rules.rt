@@ -16,7 +16,7 @@ use scop_core::{Body, Extension, RawStatement};
 use std::alloc::Global;
 use suite_base::{Fail, List, Refusal, Which};
 
-/// Takes an extension of a statement of so many iterators: its body, at most once, or one that is kept.
+// Takes an extension of a statement of so many iterators: its body, at most once, or one that is kept.
 #[tactic(auto, unfolding(crate::specs::Rules::extension))]
 fn extension(
     alloc: Global,
@@ -46,7 +46,7 @@ fn extension(
     Ok(())
 }
 
-/// Takes so many extensions of a statement of so many iterators.
+// Takes so many extensions of a statement of so many iterators.
 fn extensions(
     alloc: Global,
     cursor: &mut Cursor<'_>,
@@ -65,7 +65,7 @@ fn extensions(
     Ok(())
 }
 
-/// Takes the number of relations of statement `k`: domain, scattering and at most 256 accesses.
+// Takes the number of relations of statement `k`: domain, scattering and at most 256 accesses.
 #[tactic(auto, unfolding(crate::specs::Rules::relation_count))]
 fn relation_count(cursor: &mut Cursor<'_>, k: u32) -> Result<usize, Fail>
     ensures { Reads (spec.relation_count k cursor.old) result cursor.new }
@@ -77,7 +77,7 @@ fn relation_count(cursor: &mut Cursor<'_>, k: u32) -> Result<usize, Fail>
     Ok(count as usize)
 }
 
-/// Takes statement `k`, over so many parameters.
+// Takes statement `k`, over so many parameters.
 #[tactic(auto, unfolding(crate::specs::Rules::statement))]
 fn statement(
     alloc: Global,

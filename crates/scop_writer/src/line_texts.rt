@@ -32,7 +32,7 @@ pub fn print_lines(text: &mut Text, lines: &[Text]) -> Result<(), NoMemory>
     Ok(())
 }
 
-/// Appends each of `names` after one space.
+// Appends each of `names` after one space.
 fn print_spaced(text: &mut Text, names: &[Text]) -> Result<(), NoMemory>
     ensures { OnOk result (text.new ≡ text.old ++ flat_map (λ next. 32 ∷ next) names.now) }
 {

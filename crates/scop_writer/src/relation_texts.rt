@@ -12,7 +12,7 @@ use scop_core::{Access, AccessKind, Schedule};
 use std::alloc::Global;
 use suite_base::{NoMemory, Text};
 
-/// Appends the number of parts as a line, where it is at least 2.
+// Appends the number of parts as a line, where it is at least 2.
 fn print_part_count(text: &mut Text, parts: usize) -> Result<(), NoMemory>
     ensures { OnOk result (text.new ≡ text.old ++ parts_line parts) }
 {
@@ -22,7 +22,7 @@ fn print_part_count(text: &mut Text, parts: usize) -> Result<(), NoMemory>
     Ok(())
 }
 
-/// Appends the parts of `relation`.
+// Appends the parts of `relation`.
 fn print_parts(text: &mut Text, relation: &Relation) -> Result<(), NoMemory>
     ensures { OnOk result (text.new ≡ text.old ++ flat_map part_layout relation.now) }
 {
@@ -41,7 +41,7 @@ pub fn print_relation(text: &mut Text, word: &[u8], relation: &Relation) -> Resu
     print_parts(text, relation)
 }
 
-/// The type word of an access.
+// The type word of an access.
 fn word_of(kind: AccessKind) -> &'static [u8]
     ensures { result.now ≡ access_word kind }
 {

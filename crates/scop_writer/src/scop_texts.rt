@@ -15,7 +15,7 @@ use scop_core::Scop;
 use std::alloc::Global;
 use suite_base::{NoMemory, Text};
 
-/// Appends the context.
+// Appends the context.
 fn print_context(text: &mut Text, context: &Part) -> Result<(), NoMemory>
     ensures { OnOk result (text.new ≡ text.old ++ relation_layout (codes "CONTEXT") (context.now ∷ [])) }
 {
@@ -23,7 +23,7 @@ fn print_context(text: &mut Text, context: &Part) -> Result<(), NoMemory>
     print_part(text, context)
 }
 
-/// Appends the names of the parameters.
+// Appends the names of the parameters.
 fn print_strings(text: &mut Text, names: &[Text]) -> Result<(), NoMemory>
     ensures { OnOk result (text.new ≡ text.old ++ parameters_layout (Some names.now)) }
 {
@@ -33,7 +33,7 @@ fn print_strings(text: &mut Text, names: &[Text]) -> Result<(), NoMemory>
     Ok(())
 }
 
-/// Appends the names of the parameters, where they are present.
+// Appends the names of the parameters, where they are present.
 fn print_parameters(text: &mut Text, scop: &Scop) -> Result<(), NoMemory>
     ensures { OnOk result (text.new ≡ text.old ++ parameters_layout scop.now.parameters) }
 {
@@ -43,7 +43,7 @@ fn print_parameters(text: &mut Text, scop: &Scop) -> Result<(), NoMemory>
     }
 }
 
-/// Appends the statements.
+// Appends the statements.
 fn print_statements(alloc: Global, text: &mut Text, scop: &Scop) -> Result<(), NoMemory>
     ensures { OnOk result (text.new ≡ text.old ++ flat_map (statement_layout scop.now.context.shape.parameters) scop.now.statements) }
 {
@@ -55,7 +55,7 @@ fn print_statements(alloc: Global, text: &mut Text, scop: &Scop) -> Result<(), N
     Ok(())
 }
 
-/// Appends the line of an array.
+// Appends the line of an array.
 fn print_array(text: &mut Text, identifier: Coeff, name: &Text) -> Result<(), NoMemory>
     ensures { OnOk result (text.new ≡ text.old ++ array_line (identifier, name.now)) }
 {
@@ -64,7 +64,7 @@ fn print_array(text: &mut Text, identifier: Coeff, name: &Text) -> Result<(), No
     print_line(text, name.bytes())
 }
 
-/// Appends the line of array `k`, from 0, of which there is one.
+// Appends the line of array `k`, from 0, of which there is one.
 #[tactic(auto, using(crate::proofs::Pieces::next_piece))]
 fn print_array_line(text: &mut Text, scop: &Scop, k: usize) -> Result<(), NoMemory>
     requires { k < length (arrays_of scop.now) }
@@ -79,7 +79,7 @@ fn print_array_line(text: &mut Text, scop: &Scop, k: usize) -> Result<(), NoMemo
     }
 }
 
-/// Appends the lines of the arrays, which are so many.
+// Appends the lines of the arrays, which are so many.
 fn print_array_lines(text: &mut Text, scop: &Scop, count: usize) -> Result<(), NoMemory>
     requires { count ≡ length (arrays_of scop.now) }
     ensures { OnOk result (text.new ≡ text.old ++ flat_map array_line (arrays_of scop.now)) }
@@ -90,7 +90,7 @@ fn print_array_lines(text: &mut Text, scop: &Scop, count: usize) -> Result<(), N
     Ok(())
 }
 
-/// Appends the arrays, where they are present.
+// Appends the arrays, where they are present.
 fn print_arrays(text: &mut Text, scop: &Scop) -> Result<(), NoMemory>
     ensures { OnOk result (text.new ≡ text.old ++ arrays_layout scop.now.arrays) }
 {

@@ -12,7 +12,7 @@ use scop_core::{Body, Extension, Statement};
 use std::alloc::Global;
 use suite_base::{NoMemory, Text};
 
-/// Appends the accesses of a statement over so many parameters.
+// Appends the accesses of a statement over so many parameters.
 fn print_accesses(
     alloc: Global,
     text: &mut Text,
@@ -30,7 +30,7 @@ fn print_accesses(
     Ok(())
 }
 
-/// Appends the scattering of a statement over so many parameters.
+// Appends the scattering of a statement over so many parameters.
 fn print_scattering(
     alloc: Global,
     text: &mut Text,
@@ -49,14 +49,14 @@ fn print_scattering(
     )
 }
 
-/// Appends the number of relations of a statement.
+// Appends the number of relations of a statement.
 fn print_relation_count(text: &mut Text, statement: &Statement) -> Result<(), NoMemory>
     ensures { OnOk result (text.new ≡ text.old ++ number_line (length statement.now.accesses + 2)) }
 {
     print_number_line(text, statement.accesses.as_slice().len() + 2)
 }
 
-/// Appends the body as the extension that it is.
+// Appends the body as the extension that it is.
 fn print_body(text: &mut Text, body: &Body) -> Result<(), NoMemory>
     ensures { OnOk result (text.new ≡ text.old ++ body_layout body.now) }
 {
@@ -67,7 +67,7 @@ fn print_body(text: &mut Text, body: &Body) -> Result<(), NoMemory>
     print_line(text, b"</body>")
 }
 
-/// Appends one extension.
+// Appends one extension.
 fn print_extension(text: &mut Text, extension: &Extension) -> Result<(), NoMemory>
     ensures { OnOk result (text.new ≡ text.old ++ extension_layout extension.now) }
 {
@@ -90,7 +90,7 @@ pub fn print_extensions(text: &mut Text, extensions: &[Extension]) -> Result<(),
     Ok(())
 }
 
-/// Appends the relations of a statement over so many parameters, and before them their number.
+// Appends the relations of a statement over so many parameters, and before them their number.
 fn print_relations(
     alloc: Global,
     text: &mut Text,
