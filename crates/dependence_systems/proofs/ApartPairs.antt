@@ -1,6 +1,5 @@
 -- Two statements whose spans are apart have no entries.
-use Rattle.std.proofs.Common.{◌≡◌, ℕ, List, ◌++◌, IsSome, is_some, Option, Some, ap, sym, ◌∙◌, subst, append-nil}
-use Rattle.scop_core.specs.declared.accesses.Access.{Access}
+use Rattle.std.proofs.Common.{◌≡◌, ℕ, List, ◌++◌, IsSome, is_some, Some, ap, sym, ◌∙◌, subst, append-nil}
 use Rattle.scop_core.specs.declared.statements.Statement.{Statement}
 use Rattle.scop_core.specs.ScopData.{ScopData}
 use Rattle.dependence_systems.specs.declared.dependences.Dep.{Dep}
@@ -10,7 +9,7 @@ use Rattle.dependence_systems.specs.Entries.{side_at, ends_of, between}
 use Rattle.dependence_systems.specs.Originals.{HasOriginals}
 use Rattle.dependence_systems.specs.Spans.{Covers, CoverEach, AreApart}
 use Rattle.dependence_systems.proofs.ScopPairs.{originals_match}
-use Rattle.dependence_systems.proofs.SpanLaws.{HasSpan, span_of_number, apart_among}
+use Rattle.dependence_systems.proofs.SpanLaws.{span_of_number, apart_among}
 
 same_span : {p q : Span} → Some p ≡ Some q → p ≡ q
 same_span e = cc

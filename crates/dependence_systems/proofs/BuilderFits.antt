@@ -1,15 +1,14 @@
 -- What a builder's calls need, from what a system is made of.
-use Rattle.std.proofs.Common.{◌≡◌, ℕ, ◌+◌, ◌<◌, ◌≤◌, List, length, refl, ap, sym, ◌∙◌, subst, arith}
-use Rattle.relation_core.specs.Systems.{System, IsWellFormed, row_at, width}
-use Rattle.relation_core.specs.declared.shapes.Shape.{Shape}
+use Rattle.std.proofs.Common.{◌≡◌, ℕ, ◌+◌, refl, ap, ◌∙◌, arith}
+use Rattle.relation_core.specs.Systems.{System, IsWellFormed}
 use Rattle.scop_core.specs.declared.schedules.Schedule.{Schedule}
 use Rattle.scop_core.specs.SolvedRows.{floor_part}
 use Rattle.dependence_systems.specs.declared.widths.Widths.{Widths}
 use Rattle.dependence_systems.specs.declared.widths.Topic.{Topic}
 use Rattle.dependence_systems.specs.declared.widths.Comparison.TheVariants.{Subscripts}
 use Rattle.dependence_systems.specs.Comparisons.{reach_of, AreLong, HasColumns, SharedFit, AllCompare}
-use Rattle.dependence_systems.specs.Fits.{GroundsFit, PairingFits, SchedulesFit}
-use Rattle.dependence_systems.specs.Systems.{Pairing, widths_for, widths_of, shape_with, system_shape}
+use Rattle.dependence_systems.specs.Fits.{GroundsFit, PairingFits}
+use Rattle.dependence_systems.specs.Systems.{Pairing, widths_for, widths_of}
 
 -- rows of a well-formed part of one side
 pub side_long : (topic : Topic) (w : Widths) (parameters : ℕ) (part : System) → HasColumns topic w parameters part.shape → IsWellFormed part.shape part.rows

@@ -11,7 +11,7 @@ use Rattle.scop_core.specs.LevelOrder.{IsLevel}
 use Rattle.scop_core.proofs.LevelOrder.{levels_are_listed}
 use Rattle.dependence_systems.specs.Sides.{Side, member}
 use Rattle.dependence_systems.specs.Entries.{numbered, kind_between, can_meet, ends_of, levels_of, at_parts, first_entry, entries_by, entries_from, between, entries}
-use Rattle.dependence_systems.proofs.Members.{From, in_flat_map, from_flat_map, Image, in_map, from_map, numbered_member, member_numbered, member_of_range, range_of_member}
+use Rattle.dependence_systems.proofs.Members.{in_flat_map, from_flat_map, in_map, from_map, numbered_member, member_numbered, member_of_range, range_of_member}
 
 -- what an entry of the list is of
 pub record IsEntry (sides : List Side) (e : Dep) : Type 0 where

@@ -3,11 +3,10 @@ use Rattle.std.proofs.Common.{◌≡◌, ℕ, zero, suc, ◌+◌, ◌^◌, ◌<�
 use Rattle.std.proofs.lemmas.List.Elements.{All-head, All-tail, All-cons, All-nil}
 use Rattle.relation_core.specs.Systems.{System, HasLimits}
 use Rattle.scop_core.specs.declared.accesses.Access.{Access}
-use Rattle.scop_core.specs.declared.schedules.Schedule.{Schedule}
 use Rattle.scop_core.specs.declared.statements.Statement.{Statement}
 use Rattle.scop_core.specs.ScopData.{ScopData}
 use Rattle.scop_core.specs.Sequences.{In}
-use Rattle.scop_core.specs.KeptLimits.{StatementKeepsLimits, KeepsLimits}
+use Rattle.scop_core.specs.KeptLimits.{StatementKeepsLimits}
 use Rattle.scop_core.specs.Printable.{IsDomainPart}
 use Rattle.scop_core.specs.Shapes.{IsShapedStatement}
 use Rattle.scop_core.specs.Validity.{IsValid}
@@ -16,13 +15,13 @@ use Rattle.scop_core.proofs.ScopShapes.{scops_are_formed, scops_are_shaped}
 use Rattle.dependence_systems.specs.declared.dependences.Dep.{Dep}
 use Rattle.dependence_systems.specs.Sides.{Side, member, schedule_in, under, under_originals, sides, member_or, no_side}
 use Rattle.dependence_systems.specs.Entries.{side_at, entries}
-use Rattle.dependence_systems.specs.Fits.{SideFits, PairingFits}
+use Rattle.dependence_systems.specs.Fits.{SideFits}
 use Rattle.dependence_systems.specs.Originals.{IsPiece, ArePieces, HasOriginals}
 use Rattle.dependence_systems.specs.Systems.{Pairing, pairing, pairing_of, no_part, no_access, system_shape}
 use Rattle.dependence_systems.specs.Lookups.{HasSide, IsReady, IsCounted}
 use Rattle.dependence_systems.proofs.EntryFound.{IsEntry, listed_entry}
 use Rattle.dependence_systems.proofs.Pairs.{all_member, named, is_named, named_fits}
-use Rattle.dependence_systems.proofs.ScopPairs.{Matches, originals_match, originals_fit}
+use Rattle.dependence_systems.proofs.ScopPairs.{originals_match, originals_fit}
 
 is_there : {X : Type 0} (found : Option X) (x : X) → found ≡ Some x → IsSome found
 is_there found x e = ap (λ z. is_some z) e

@@ -1,7 +1,5 @@
 -- A pair of instances lies in a system of the list exactly where it touches and is ordered.
-use Rattle.std.proofs.Common.{◌≡◌, ◌⊎◌, inl, inr, ℕ, zero, suc, ◌+◌, ℤ, List, [], ◌∷◌, map, length, get_or, slice_get, Bool, true, false, ◌&&◌, ◌==◌, All, Option, Some, None, refl, ap, sym, ◌∙◌, subst, arith}
-use Rattle.std.specs.Prelude.{◌↔◌}
-use Rattle.std.specs.Ordering.{int_eq}
+use Rattle.std.proofs.Common.{◌≡◌, ◌⊎◌, inl, inr, ℕ, zero, suc, ℤ, List, [], ◌∷◌, length, slice_get, Bool, true, false, ◌&&◌, All, Option, Some, refl, ap, sym, ◌∙◌, subst}
 use Rattle.std.proofs.lemmas.Bool.Decides.{Decides-int_eq, Decides-eqb}
 use Rattle.std.proofs.lemmas.List.{length-map}
 use Rattle.std.proofs.lemmas.List.Elements.{All-head, All-tail}
@@ -10,14 +8,9 @@ use Rattle.relation_core.specs.Points.{LiesIn, LiesInSome}
 use Rattle.scop_core.specs.declared.accesses.Access.{Access}
 use Rattle.scop_core.specs.declared.accesses.AccessKind.{AccessKind}
 use Rattle.scop_core.specs.declared.accesses.AccessKind.TheVariants.{Read, Write, MayWrite}
-use Rattle.scop_core.specs.declared.affines.Affine.{Affine}
-use Rattle.scop_core.specs.declared.schedules.Schedule.{Schedule}
 use Rattle.scop_core.specs.Sequences.{In}
-use Rattle.scop_core.specs.Order.{Before}
-use Rattle.scop_core.specs.Memory.{Cell, Use, is_writing}
-use Rattle.scop_core.specs.Meaning.{Instance, stamp_of, use_at, affine_at, levels_at}
-use Rattle.scop_core.specs.LevelOrder.{common_loops, IsLevel, OrdersAt, level_values}
-use Rattle.scop_core.specs.SolvedRows.{HasSizes}
+use Rattle.scop_core.specs.Memory.{Cell, is_writing}
+use Rattle.scop_core.specs.Meaning.{Instance, use_at, affine_at, levels_at}
 use Rattle.scop_core.specs.Held.{IsFormed}
 use Rattle.scop_core.specs.Printable.{IsContext, IsDomainPart}
 use Rattle.scop_core.specs.ReadBack.{IsSolvedSchedule, IsSolvedAccess}
@@ -27,11 +20,11 @@ use Rattle.dependence_systems.specs.declared.dependences.Dep.{Dep}
 use Rattle.dependence_systems.specs.declared.dependences.DepKind.{DepKind}
 use Rattle.dependence_systems.specs.declared.dependences.DepKind.TheVariants.{Raw, War, Waw}
 use Rattle.dependence_systems.specs.Sides.{Side, member, member_or, no_side}
-use Rattle.dependence_systems.specs.Entries.{kind_between, can_meet, entries}
-use Rattle.dependence_systems.specs.Systems.{Pairing, pairing_of, no_part, no_access, system_of, level_system}
+use Rattle.dependence_systems.specs.Entries.{kind_between, can_meet}
+use Rattle.dependence_systems.specs.Systems.{Pairing, pairing_of, no_part, no_access, level_system}
 use Rattle.dependence_systems.specs.Fits.{SideFits, PairingFits, SubscriptsFit}
-use Rattle.dependence_systems.specs.Pairs.{LiesInEntry, LiesInList, uses_of, UsesTouch, IsOrdered, SystemsHoldOrderedPairs}
-use Rattle.dependence_systems.proofs.Members.{Image, in_map, from_map}
+use Rattle.dependence_systems.specs.Pairs.{LiesInList, IsOrdered, SystemsHoldOrderedPairs}
+use Rattle.dependence_systems.proofs.Members.{in_map, from_map}
 use Rattle.dependence_systems.proofs.EntryFound.{IsEntry, entry_listed, listed_entry}
 use Rattle.dependence_systems.proofs.SystemMeanings.{PairHolds, forwards, backwards}
 

@@ -1,15 +1,13 @@
 -- What lists of rows in the columns of a system say of a point in pieces.
-use Rattle.std.proofs.Common.{◌≡◌, ℕ, zero, suc, ◌+◌, ◌<◌, ◌≤◌, List, [], ◌∷◌, ◌++◌, length, map, take, drop, All, ℤ, pos, negsuc, ◌+ℤ◌, ◌<ℤ◌, neg_ℤ, refl, ap, sym, ◌∙◌, subst, arith, add-zero}
+use Rattle.std.proofs.Common.{◌≡◌, ℕ, zero, suc, ◌+◌, ◌<◌, ◌≤◌, List, [], ◌∷◌, ◌++◌, length, map, take, drop, All, ℤ, pos, negsuc, ◌+ℤ◌, neg_ℤ, refl, ap, sym, ◌∙◌, subst, arith}
 use Rattle.std.specs.Prelude.{◌↔◌}
-use Rattle.std.proofs.lemmas.Int.{ints}
 use Rattle.std.proofs.lemmas.List.{length-append, length-map}
 use Rattle.std.proofs.lemmas.List.Elements.{All-head, All-tail}
 use Rattle.row_core.specs.Rows.{dot}
-use Rattle.relation_core.specs.Systems.{System, ReachTo, row_at}
+use Rattle.relation_core.specs.Systems.{ReachTo}
 use Rattle.relation_core.specs.Points.{Meets, MeetsAll}
 use Rattle.relation_core.specs.declared.shapes.Shape.{Shape}
 use Rattle.relation_core.specs.declared.part_rows.PartRow.{PartRow}
-use Rattle.relation_core.specs.declared.part_rows.RowKind.TheVariants.{Equal, AtLeast}
 use Rattle.scop_core.specs.declared.affines.Affine.{Affine}
 use Rattle.scop_core.specs.declared.schedules.Floor.{Floor}
 use Rattle.scop_core.specs.SolvedRows.{zeros, raised, with_columns, low_row, high_row, floor_rows, HasSizes}
@@ -20,7 +18,7 @@ use Rattle.dependence_systems.specs.declared.widths.Widths.{Widths}
 use Rattle.dependence_systems.specs.declared.widths.Topic.{Topic}
 use Rattle.scop_core.specs.LevelOrder.{EqualUpTo, LessAfter}
 use Rattle.dependence_systems.specs.Systems.{in_columns, placed, placed_rows, subscript_row, equal_row, less_row, rows_between}
-use Rattle.dependence_systems.proofs.Segments.{HasWidths, length_zeros}
+use Rattle.dependence_systems.proofs.Segments.{HasWidths}
 use Rattle.dependence_systems.proofs.Differences.{subscripts_meet, levels_meet, less_meets}
 
 -- rows that are placed hold where they hold at the side of which they speak

@@ -9,16 +9,15 @@ use Rattle.scop_core.specs.declared.schedules.Schedule.{Schedule}
 use Rattle.scop_core.specs.declared.statements.Statement.{Statement}
 use Rattle.scop_core.specs.ScopData.{ScopData}
 use Rattle.scop_core.specs.Order.{Before}
-use Rattle.scop_core.specs.Meaning.{InContext, Instance, InDomain, IsInstance, statement_at, stamp_of, stamp_in, stamp, event_in, Touch, Conflict}
+use Rattle.scop_core.specs.Meaning.{Instance, InDomain, IsInstance, statement_at, stamp_of, stamp_in, stamp, event_in, Touch}
 use Rattle.scop_core.specs.Memory.{EventsTouch}
 use Rattle.scop_core.specs.ReadBack.{IsSolvedSchedule}
 use Rattle.scop_core.specs.Shapes.{IsShapedStatement, IsFormedStatement}
-use Rattle.scop_core.specs.Validity.{IsValid}
 use Rattle.scop_core.proofs.ScopShapes.{scops_are_formed, scops_are_shaped}
 use Rattle.dependence_systems.specs.Sides.{Side, member, schedule_in, under, under_originals, sides, own_sides, member_or}
 use Rattle.dependence_systems.specs.Fits.{SideFits}
 use Rattle.dependence_systems.specs.Pairs.{LiesInList, IsOrdered, UsesTouch, uses_of}
-use Rattle.dependence_systems.specs.Originals.{IsPiece, ArePieces, HasOriginals, as_original, ConflictsByOld, SystemsHoldOldConflicts, SystemsHoldConflicts, OriginalsAreOwn}
+use Rattle.dependence_systems.specs.Originals.{IsPiece, ArePieces, as_original, SystemsHoldOldConflicts, SystemsHoldConflicts, OriginalsAreOwn}
 use Rattle.dependence_systems.proofs.Pairs.{all_member, systems_hold_ordered_pairs}
 
 pub statement_is : (statements : List Statement) (k : ℕ) → statement_at statements k ≡ member statements k

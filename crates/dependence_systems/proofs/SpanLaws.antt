@@ -1,12 +1,11 @@
 -- Spans cover accesses, and accesses in spans that are apart give no entries.
-use Rattle.std.proofs.Common.{◌≡◌, ◌⊎◌, inl, inr, ℕ, zero, suc, ◌+◌, ◌<◌, ℤ, ◌≤ℤ◌, ◌<ℤ◌, Bool, true, false, if◌then◌else◌, ◌&&◌, ◌==◌, List, [], ◌∷◌, ◌++◌, length, take, get_or, slice_get, Option, Some, None, refl, ap, sym, ◌∙◌, subst, arith}
+use Rattle.std.proofs.Common.{◌≡◌, inl, inr, ℕ, zero, suc, ◌+◌, ◌<◌, Bool, true, false, if◌then◌else◌, ◌&&◌, ◌==◌, List, [], ◌∷◌, ◌++◌, length, take, get_or, slice_get, Option, Some, None, refl, ap, sym, ◌∙◌, subst, arith}
 use Rattle.std.specs.List.{flat_map, range_with_len}
 use Rattle.std.specs.Ordering.{int_eq}
 use Rattle.std.proofs.lemmas.Int.{ints}
 use Rattle.std.proofs.lemmas.Bool.Decides.{Decides-int_eq}
 use Rattle.std.proofs.lemmas.List.Concat.{flat_map-cons}
-use Rattle.scop_core.specs.declared.accesses.AccessKind.{AccessKind}
-use Rattle.scop_core.specs.declared.accesses.AccessKind.TheVariants.{Read, Write, MayWrite}
+use Rattle.scop_core.specs.declared.accesses.AccessKind.TheVariants.{Read}
 use Rattle.scop_core.specs.declared.accesses.Access.{Access}
 use Rattle.scop_core.specs.declared.statements.Statement.{Statement}
 use Rattle.dependence_systems.specs.declared.dependences.Dep.{Dep}
@@ -14,7 +13,7 @@ use Rattle.dependence_systems.specs.declared.dependences.DepKind.{DepKind}
 use Rattle.dependence_systems.specs.declared.dependences.Ends.{Ends}
 use Rattle.dependence_systems.specs.declared.spans.Span.{Span}
 use Rattle.dependence_systems.specs.Sides.{member}
-use Rattle.dependence_systems.specs.Entries.{numbered, kind_between, can_meet, levels_of, at_levels, at_target_parts, at_parts, first_entry, entries_by, entries_from, entries_among}
+use Rattle.dependence_systems.specs.Entries.{numbered, kind_between, can_meet, at_levels, at_target_parts, at_parts, first_entry, entries_by, entries_from, entries_among}
 use Rattle.dependence_systems.specs.Spans.{IsIn, IsWider, Covers, CoverEach, AreApart}
 
 -- one access more

@@ -1,5 +1,5 @@
 -- A pair of points lies in a system exactly where both lie in their domain parts, their subscripts are equal, and the level orders them.
-use Rattle.std.proofs.Common.{◌≡◌, ℕ, ◌+◌, ◌≤◌, List, [], ◌∷◌, ◌++◌, length, take, drop, ℤ, pos, refl, ap, sym, ◌∙◌, subst, arith, length-take-le, length-drop}
+use Rattle.std.proofs.Common.{◌≡◌, ℕ, ◌+◌, List, [], ◌∷◌, ◌++◌, length, take, drop, ℤ, pos, refl, ap, sym, ◌∙◌, subst, arith, length-take-le, length-drop}
 use Rattle.std.specs.Prelude.{◌↔◌}
 use Rattle.std.proofs.lemmas.List.{take-append-drop, length-append}
 use Rattle.relation_core.specs.Systems.{System}

@@ -1,9 +1,9 @@
 -- A point in pieces meets the rows of a system exactly where each piece meets the rows of its side.
-use Rattle.std.proofs.Common.{◌≡◌, ℕ, zero, suc, ◌+◌, ◌<◌, ◌≤◌, List, [], ◌∷◌, ◌++◌, length, All, ℤ, pos, ap, sym, ◌∙◌, subst, arith}
+use Rattle.std.proofs.Common.{◌≡◌, ℕ, zero, suc, ◌+◌, ◌≤◌, List, [], ◌∷◌, ◌++◌, length, All, ℤ, pos, ap, sym, ◌∙◌, subst, arith}
 use Rattle.std.specs.Prelude.{◌↔◌}
 use Rattle.std.proofs.lemmas.List.{length-map}
-use Rattle.relation_core.specs.Systems.{System, ReachTo, row_at, width}
-use Rattle.relation_core.specs.Points.{MeetsAll, coordinates}
+use Rattle.relation_core.specs.Systems.{System, ReachTo}
+use Rattle.relation_core.specs.Points.{MeetsAll}
 use Rattle.relation_core.specs.declared.part_rows.PartRow.{PartRow}
 use Rattle.relation_core.proofs.Points.{meets_append, meets_front, meets_back}
 use Rattle.scop_core.specs.declared.schedules.Schedule.{Schedule}

@@ -1,5 +1,5 @@
 -- Pairs of instances that a system orders.
-use Rattle.std.specs.Prelude.{◌≡◌, ◌⊎◌, ◌↔◌, ℕ, ℤ, List, [], map, length, true, All, Some}
+use Rattle.std.specs.Prelude.{◌≡◌, ◌⊎◌, ◌↔◌, ℤ, List, [], map, length, true, All, Some}
 use Rattle.relation_core.specs.Systems.{System}
 use Rattle.relation_core.specs.Points.{LiesIn, LiesInSome}
 use Rattle.scop_core.specs.Sequences.{In}

@@ -1,5 +1,5 @@
 -- The two sides of a dependence: statements, each with the schedule by which its instances are ordered.
-use Rattle.std.specs.Prelude.{◌≡◌, ℕ, zero, suc, List, [], ◌∷◌, map, length, slice_get, Option, Some, None, IsSomeAnd}
+use Rattle.std.specs.Prelude.{ℕ, zero, suc, List, [], ◌∷◌, map, length, slice_get, Option, Some, None}
 use Rattle.relation_core.specs.Systems.{System}
 use Rattle.scop_core.specs.declared.accesses.Access.{Access}
 use Rattle.scop_core.specs.declared.schedules.Schedule.{Schedule}

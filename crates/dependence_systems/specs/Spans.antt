@@ -1,5 +1,5 @@
 -- Two statements whose accesses cannot meet, from the least and the greatest array of each and from whether it writes.
-use Rattle.std.specs.Prelude.{◌≡◌, ◌⊎◌, ℤ, ◌≤ℤ◌, ◌<ℤ◌, false, List, [], ◌∷◌}
+use Rattle.std.specs.Prelude.{◌≡◌, ◌⊎◌, ◌≤ℤ◌, ◌<ℤ◌, false, List, [], ◌∷◌}
 use Rattle.scop_core.specs.declared.accesses.AccessKind.TheVariants.{Read}
 use Rattle.scop_core.specs.declared.accesses.Access.{Access}
 use Rattle.scop_core.specs.declared.statements.Statement.{Statement}

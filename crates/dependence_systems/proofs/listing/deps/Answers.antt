@@ -1,8 +1,8 @@
-use Rattle.std.proofs.Common.{◌≡◌, ◌<◌, ◌≤◌, ◌+◌, ◌++◌, ◌-◌, length, IfErr, refl, ap, sym, ◌∙◌, subst, arith, append-nil}
+use Rattle.std.proofs.Common.{◌≡◌, ◌<◌, ◌+◌, ◌++◌, ◌-◌, length, refl, ap, sym, ◌∙◌, subst, arith, append-nil}
 use Rattle.std.specs.List.{flat_map, range_with_len}
 use Rattle.std.proofs.lemmas.Result.{err_from_is_err_and}
 use Rattle.dependence_systems.specs.Sides.{sides}
-use Rattle.dependence_systems.specs.Entries.{between, side_at, entries_of_source, entries_by_number, entries, IsTooMany}
+use Rattle.dependence_systems.specs.Entries.{entries_of_source, entries_by_number, entries, IsTooMany}
 use Rattle.dependence_systems.proofs.NamedSides.{number_counts, member_below, length_sides}
 use Rattle.dependence_systems.proofs.Pushes.{range_step, range_too_many, entries_are}
 use Rattle.dependence_systems.proofs.listing.deps.Goals as goal

@@ -1,7 +1,7 @@
 use Rattle.std.proofs.Common.{◌++◌, ap, sym, ◌∙◌, append-nil}
 use Rattle.scop_core.specs.LevelOrder.{common_loops, is_textually_before}
 use Rattle.dependence_systems.specs.Sides.{under}
-use Rattle.dependence_systems.specs.Entries.{ends_of, between}
+use Rattle.dependence_systems.specs.Entries.{ends_of}
 use Rattle.dependence_systems.proofs.SpanLaws.{none_among}
 use Rattle.dependence_systems.proofs.listing.push_between.Goals as goal
 
