@@ -1,19 +1,8 @@
 -- Loops in common, counted from place to place of two beta vectors.
-use Rattle.std.proofs.Common.{◌≡◌, ℕ, zero, suc, ◌+◌, ◌<◌, ◌≤◌, List, [], ◌∷◌, length, drop, true, false, if◌then◌else◌, ℤ, refl, ap, sym, ◌∙◌, arith}
-use Rattle.std.specs.Ordering.{int_eq}
+use Rattle.std.proofs.Common.{◌≡◌, ℕ, zero, suc, ◌+◌, ◌≤◌, List, [], ◌∷◌, length, drop, true, false, if◌then◌else◌, ℤ, refl, ap, sym, ◌∙◌, arith}
 use Rattle.std.proofs.lemmas.List.{drop_all}
-use Rattle.row_core.specs.Rows.{entry}
 use Rattle.scop_core.specs.LevelOrder.{common_loops, is_textually_before}
 use Rattle.dependence_systems.specs.Comparisons.{starts_common}
-
--- at a place behind which both go on
-pub starts_there : (p q : List ℤ) (k : ℕ) → k + 1 < length p → k + 1 < length q → starts_common (drop k p) (drop k q) ≡ int_eq (entry p k) (entry q k)
-starts_there [] q k h g = absurd (omega arith)
-starts_there (b ∷ p) [] k h g = absurd (omega arith)
-starts_there (b ∷ []) (c ∷ q) zero h g = absurd (omega arith)
-starts_there (b ∷ (b' ∷ p)) (c ∷ []) zero h g = absurd (omega arith)
-starts_there (b ∷ (b' ∷ p)) (c ∷ (c' ∷ q)) zero h g = refl
-starts_there (b ∷ p) (c ∷ q) (suc k) h g = starts_there p q k (omega arith) (omega arith)
 
 -- at the last place of one
 pub ends_first : (p q : List ℤ) (k : ℕ) → length p ≤ k + 1 → starts_common (drop k p) (drop k q) ≡ false
@@ -49,14 +38,6 @@ ends_second p (c ∷ []) zero h = short p c
 ends_second p (c ∷ (c' ∷ q)) zero h = absurd (omega arith)
 ends_second [] (c ∷ q) (suc k) h = refl
 ends_second (b ∷ p) (c ∷ q) (suc k) h = ends_second p q k (omega arith)
-
--- where both begin with one loop, the others are counted behind it
-pub common_stops : (p q : List ℤ) → starts_common p q ≡ false → common_loops p q ≡ 0
-common_stops [] q h = refl
-common_stops (b ∷ []) q h = refl
-common_stops (b ∷ (b' ∷ p)) [] h = refl
-common_stops (b ∷ (b' ∷ p)) (c ∷ []) h = refl
-common_stops (b ∷ (b' ∷ p)) (c ∷ (c' ∷ q)) h = ap (λ t. if t then suc (common_loops (b' ∷ p) (c' ∷ q)) else 0) h
 
 pub common_goes_on : (p q : List ℤ) (k : ℕ) → starts_common (drop k p) (drop k q) ≡ true → common_loops (drop k p) (drop k q) ≡ suc (common_loops (drop (suc k) p) (drop (suc k) q))
 common_goes_on [] q zero h = absurd (cc)

@@ -1,5 +1,4 @@
 pub mod ApartPairs
-pub mod BuilderFits
 mod Checks
 pub mod Differences
 pub mod EntryFound

@@ -1,9 +1,8 @@
 -- Lists of entries that are appended one after the other.
-use Rattle.std.proofs.Common.{◌≡◌, ℕ, suc, ◌+◌, ◌-◌, ◌<◌, ◌≤◌, List, [], ◌∷◌, ◌++◌, map, length, drop, get_or, slice_get, Some, refl, ap, sym, ◌∙◌, arith, append_assoc}
+use Rattle.std.proofs.Common.{◌≡◌, ℕ, suc, ◌+◌, ◌-◌, ◌<◌, ◌≤◌, List, [], ◌∷◌, ◌++◌, map, length, slice_get, Some, refl, ap, sym, ◌∙◌, arith, append_assoc}
 use Rattle.std.specs.List.{flat_map, range_with_len}
 use Rattle.std.proofs.lemmas.List.{length-append}
 use Rattle.std.proofs.lemmas.List.Concat.{flat_map-cons}
-use Rattle.std.proofs.Math.Seq.{drop-cons}
 use Rattle.suite_base.specs.declared.refusals.Fail.{Fail}
 use Rattle.suite_base.specs.declared.refusals.Fail.TheVariants.{Memory, Refused}
 use Rattle.dependence_systems.specs.declared.dependences.Dep.{Dep}
@@ -46,35 +45,6 @@ map_split f list whole k n h e =
 pub map_step : {X : Type 0} (f : ℕ → X) (list new whole : List X) (k n : ℕ) → k < n → list ++ map f (range_with_len (k + 1) (n - k)) ≡ whole → new ≡ list ++ f (k + 1) ∷ []
     → new ++ map f (range_with_len (k + 1 + 1) (n - (k + 1))) ≡ whole
 map_step f list new whole k n h e made = ap (λ t. t ++ map f (range_with_len (k + 1 + 1) (n - (k + 1)))) made ∙ map_split f list whole k n h e
-
-pub map_too_many : (f : ℕ → Dep) (list whole : List Dep) (k n : ℕ) (fail : Fail) → k < n → list ++ map f (range_with_len (k + 1) (n - k)) ≡ whole
-    → IsTooMany (list ++ f (k + 1) ∷ []) fail → IsTooMany whole fail
-map_too_many f list whole k n fail h e g =
-    let split = ap length (map_split f list whole k n h e) in
-    too_many (list ++ f (k + 1) ∷ []) whole fail (omega (arith, split, length-append (list ++ f (k + 1) ∷ []) (map f (range_with_len (k + 1 + 1) (n - (k + 1)))))) g
-
--- and with members of a list and their numbers
-numbered_split : {X Y : Type 0} (f : ℕ × X → List Y) (xs : List X) (d : X) (list whole : List Y) (k : ℕ) → k < length xs → list ++ flat_map f (numbered (k + 1) (drop k xs)) ≡ whole
-    → (list ++ f (k + 1, get_or xs k d)) ++ flat_map f (numbered (k + 1 + 1) (drop (k + 1) xs)) ≡ whole
-numbered_split {X} {Y} f xs d list whole k h e =
-    let x : X = get_or xs k d in
-    let next : suc k ≡ k + 1 = omega arith in
-    let split : numbered (k + 1) (drop k xs) ≡ (k + 1, x) ∷ numbered (k + 1 + 1) (drop (k + 1) xs)
-    = ap (λ t. numbered (k + 1) t) (drop-cons xs k d h ∙ ap (λ j. x ∷ drop j xs) next) in
-    append_assoc list (f (k + 1, x)) (flat_map f (numbered (k + 1 + 1) (drop (k + 1) xs)))
-    ∙ (sym (ap (λ t. list ++ t) (ap (λ r. flat_map f r) split ∙ flat_map-cons f (k + 1, x) (numbered (k + 1 + 1) (drop (k + 1) xs)))) ∙ e)
-
-pub numbered_step : {X Y : Type 0} (f : ℕ × X → List Y) (xs : List X) (d : X) (list new whole : List Y) (k : ℕ) → k < length xs → list ++ flat_map f (numbered (k + 1) (drop k xs)) ≡ whole
-    → new ≡ list ++ f (k + 1, get_or xs k d) → new ++ flat_map f (numbered (k + 1 + 1) (drop (k + 1) xs)) ≡ whole
-numbered_step f xs d list new whole k h e made =
-    ap (λ t. t ++ flat_map f (numbered (k + 1 + 1) (drop (k + 1) xs))) made ∙ numbered_split f xs d list whole k h e
-
-pub numbered_too_many : {X : Type 0} (f : ℕ × X → List Dep) (xs : List X) (d : X) (list whole : List Dep) (k : ℕ) (fail : Fail) → k < length xs
-    → list ++ flat_map f (numbered (k + 1) (drop k xs)) ≡ whole → IsTooMany (list ++ f (k + 1, get_or xs k d)) fail → IsTooMany whole fail
-numbered_too_many {X} f xs d list whole k fail h e g =
-    let x : X = get_or xs k d in
-    let split = ap length (numbered_split f xs d list whole k h e) in
-    too_many (list ++ f (k + 1, x)) whole fail (omega (arith, split, length-append (list ++ f (k + 1, x)) (flat_map f (numbered (k + 1 + 1) (drop (k + 1) xs))))) g
 
 -- members with their numbers are members by their numbers
 at_end : {X : Type 0} (front : List X) (x : X) (xs : List X) → slice_get (front ++ x ∷ xs) (length front) ≡ Some x

@@ -7,11 +7,8 @@ use Rattle.relation_core.specs.Points.{coordinates}
 use Rattle.scop_core.specs.SolvedRows.{zeros}
 use Rattle.scop_core.proofs.SolvedDots.{dot_append}
 use Rattle.dependence_systems.specs.declared.widths.Widths.{Widths}
-use Rattle.dependence_systems.specs.declared.widths.Topic.{Topic}
 use Rattle.dependence_systems.specs.declared.widths.Topic.TheVariants.{Context, SourcePart, TargetPart, SourceFloors, TargetFloors}
-use Rattle.dependence_systems.specs.Comparisons.{reach_of}
-use Rattle.dependence_systems.specs.Systems.{in_columns, placed, shape_with}
-use Rattle.relation_core.specs.Systems.{width}
+use Rattle.dependence_systems.specs.Systems.{in_columns, placed}
 
 -- pieces as long as the columns of a system
 pub record HasWidths (w : Widths) (s t p q f g : List ℤ) : Type 0 where
@@ -194,19 +191,3 @@ columns_length w s t p q f g r at =
       at.source_floors_is,
       at.target_floors_is,
     )
-
-rest_length : (row : List ℤ) (i k n : ℕ) → length row ≡ i + k + n → length (drop k (drop i row)) ≡ n
-rest_length row i k n e = length-drop k (drop i row) ∙ omega (arith, length-drop i row)
-
--- a placed row is as wide as the system
-pub placed_length : (topic : Topic) (w : Widths) (parameters : ℕ) (row : List ℤ) → length row ≡ reach_of topic w + (parameters + 1) → length (placed topic w row) ≡ width (shape_with w parameters)
-placed_length Context w parameters row e =
-    columns_length w _ _ _ _ _ _ row (context_sizes w row) ∙ omega (arith, e)
-placed_length SourcePart w parameters row e =
-    columns_length w _ _ _ _ _ _ _ (source_part_sizes w row (omega (arith, e))) ∙ omega (arith, rest_length row w.source w.source_part (parameters + 1) e)
-placed_length TargetPart w parameters row e =
-    columns_length w _ _ _ _ _ _ _ (target_part_sizes w row (omega (arith, e))) ∙ omega (arith, rest_length row w.target w.target_part (parameters + 1) e)
-placed_length SourceFloors w parameters row e =
-    columns_length w _ _ _ _ _ _ _ (source_floors_sizes w row (omega (arith, e))) ∙ omega (arith, rest_length row w.source w.source_floors (parameters + 1) e)
-placed_length TargetFloors w parameters row e =
-    columns_length w _ _ _ _ _ _ _ (target_floors_sizes w row (omega (arith, e))) ∙ omega (arith, rest_length row w.target w.target_floors (parameters + 1) e)
