@@ -1,5 +1,5 @@
 -- From a valid SCoP to its draft, and from a sound draft back to a SCoP.
-use Rattle.std.proofs.Common.{◌≡◌, ◌≢◌, ℕ, zero, suc, ◌+◌, ◌<◌, ◌≤◌, ◌^◌, true, ◌⊎◌, inl, inr, Option, Some, None, List, [], ◌∷◌, map, length, ℤ, pos, refl, ap, sym, ◌∙◌, subst, arith}
+use Rattle.std.proofs.Common.{◌≡◌, ◌≢◌, ℕ, zero, suc, ◌+◌, ◌<◌, ◌≤◌, ◌^◌, true, ◌⊎◌, inl, inr, Option, Some, None, List, [], ◌∷◌, ◌++◌, map, length, get_or, take, ℤ, pos, refl, ap, sym, ◌∙◌, subst, add-one, arith}
 use Rattle.std.specs.Prelude.{All, slice_get, IfSome}
 use Rattle.std.proofs.lemmas.Int.{ints, by_lt_z}
 use Rattle.std.proofs.lemmas.List.{length-map}
@@ -19,7 +19,7 @@ use Rattle.scop_core.proofs.AssemblableData.{data_reads_back, scops_are_assembla
 use Rattle.clay_commands.specs.declared.leaves.Leaf.{Leaf}
 use Rattle.clay_commands.specs.Drafts.{Draft, betas_of, leaves_from, drafted}
 use Rattle.clay_commands.specs.Afters.{closed_leaf, closed}
-use Rattle.clay_commands.specs.Soundness.{IsSoundLeaf, IsSound}
+use Rattle.clay_commands.specs.Soundness.{IsSoundLeaf, IsSound, numbered_leaf}
 
 -- vectors apart, in both senses
 
@@ -42,9 +42,10 @@ tail_apart s statements apart (suc j) (suc k) a b ia ib ne = apart (suc (suc j))
 
 free_of_apart : (statements : List Statement) → AreApart statements → PrefixFree (betas_in statements)
 free_of_apart [] apart = tt
-free_of_apart (s ∷ statements) apart =
-    (all_apart s.schedule.betas statements (λ k t e. apart_vectors s.schedule.betas t.schedule.betas (apart 1 (suc (suc k)) s t refl e (λ n. absurd (omega arith))) (apart (suc (suc k)) 1 t s e refl (λ n. absurd (omega arith)))),
-    free_of_apart statements (tail_apart s statements apart))
+free_of_apart (s ∷ statements) apart = (
+  all_apart s.schedule.betas statements (λ k t e. apart_vectors s.schedule.betas t.schedule.betas (apart 1 (suc (suc k)) s t refl e (λ n. absurd (omega arith))) (apart (suc (suc k)) 1 t s e refl (λ n. absurd (omega arith)))),
+  free_of_apart statements (tail_apart s statements apart),
+)
 
 none_empty : (parameters : ℕ) (statements : List Statement) → All (IsShapedStatement parameters) statements → NoneEmpty (betas_in statements)
 none_empty parameters [] shaped i = i
@@ -210,3 +211,23 @@ assemblable_closed S D valid sound tree =
 
 pub closed_reads_back : (S : ScopData) (D : Draft) → IsValid S → IsSound S.context.shape.parameters D → IsTree (betas_of D) → ReadBack (closed S D)
 closed_reads_back S D valid sound tree = data_reads_back (closed S D) (assemblable_closed S D valid sound tree)
+
+-- one leaf more
+leaves_more : (n k : ℕ) (V : List (List ℕ)) (statements : List Statement) (d : Statement) → k < length V → k < length statements
+    → leaves_from n (take k V) (take k statements) ++ numbered_leaf (get_or V k []) (get_or statements k d) (n + k) ∷ [] ≡ leaves_from n (take (suc k) V) (take (suc k) statements)
+leaves_more n k [] statements d lv ls = absurd (omega arith)
+leaves_more n k (v ∷ V) [] d lv ls = absurd (omega arith)
+leaves_more n zero (v ∷ V) (s ∷ statements) d lv ls = ap (λ m. numbered_leaf v s m ∷ []) (omega arith)
+leaves_more n (suc k) (v ∷ V) (s ∷ statements) d lv ls =
+    let more = leaves_more (n + 1) k V statements d (omega arith) (omega arith) in
+    let same : n + suc k ≡ n + 1 + k = omega arith in
+    ap (λ m. numbered_leaf v s n ∷ (leaves_from (n + 1) (take k V) (take k statements) ++ numbered_leaf (get_or V k []) (get_or statements k d) m ∷ [])) same
+    ∙ ap (λ t. numbered_leaf v s n ∷ t) more
+
+pub one_leaf_more : (k : ℕ) (V : List (List ℕ)) (statements : List Statement) (s : Statement) (leaves : Draft) → k < length V → k < length statements → s ≡ get_or statements k s
+    → leaves ≡ leaves_from 1 (take k V) (take k statements) → leaves ++ numbered_leaf (get_or V k []) s (k + 1) ∷ [] ≡ leaves_from 1 (take (k + 1) V) (take (k + 1) statements)
+one_leaf_more k V statements s leaves lv ls is h =
+    let number : k + 1 ≡ 1 + k = omega arith in
+    ap (λ t. t ++ numbered_leaf (get_or V k []) s (k + 1) ∷ []) h ∙ ap (λ m. leaves_from 1 (take k V) (take k statements) ++ numbered_leaf (get_or V k []) s m ∷ []) number
+    ∙ ap (λ x. leaves_from 1 (take k V) (take k statements) ++ numbered_leaf (get_or V k []) x (1 + k) ∷ []) is ∙ leaves_more 1 k V statements s lv ls
+    ∙ ap (λ m. leaves_from 1 (take m V) (take m statements)) (sym (add-one k))

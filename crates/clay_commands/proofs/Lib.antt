@@ -17,3 +17,4 @@ pub mod SoundCuts
 pub mod SoundSplits
 pub mod ScriptRuns
 pub mod Closings
+pub mod ClosedPieces

@@ -1,5 +1,8 @@
 -- What holds of the leaves between two commands of a script that is not refused: closed, they are statements of a SCoP.
 use Rattle.std.specs.Prelude.{ℕ, ◌≡◌, ◌≤◌, ◌<◌, ◌^◌, unsigned_abs, true, None, List, length, All}
+use Rattle.scop_core.specs.declared.statements.Statement.{Statement}
+use Rattle.scop_core.specs.declared.raw_pieces.RawStatement.{RawStatement}
+use Rattle.scop_core.specs.ReadBack.{statement_pieces}
 use Rattle.scop_core.specs.Printable.{is_body}
 use Rattle.scop_core.specs.Shapes.{IsShapedStatement}
 use Rattle.scop_core.specs.KeptLimits.{StatementKeepsLimits}
@@ -40,3 +43,15 @@ abbrev pub SizesFit : Command → Type 0
 SizesFit (Stripmine p k size) = unsigned_abs size < 2 ^ 127
 SizesFit (Tile p k size t) = unsigned_abs size < 2 ^ 127
 SizesFit other = Unit {0}
+
+-- a leaf of statement number k
+abbrev pub numbered_leaf : List ℕ → Statement → ℕ → Leaf
+numbered_leaf v statement k = record { beta = v; statement = statement; original = k }
+
+-- the pieces of the statement of a leaf
+abbrev pub raw_of : ℕ → Leaf → RawStatement
+raw_of parameters leaf = statement_pieces parameters (closed_leaf leaf)
+
+-- the number of the statement that a leaf comes from
+abbrev pub original_of : Leaf → ℕ
+original_of leaf = leaf.original

@@ -1,10 +1,12 @@
 //! The ten commands that edit the schedule of a SCoP.
 #![tactic(auto)]
 
+mod applying;
 mod arguments;
 mod changes;
 mod command_steps;
 mod conditions;
+mod drafting;
 mod edit_fails;
 mod edited;
 mod form_edits;
@@ -16,4 +18,5 @@ mod splits;
 mod steps;
 mod vector_steps;
 
+pub use applying::apply;
 pub use edited::Edited;

@@ -29,7 +29,7 @@ pub fn beta_fail(i: u32, fail: BetaFail) -> Fail
 }
 
 /// A copy of the vector of a statement.
-fn copied_vector(alloc: Global, vector: &[u32]) -> Result<List<u32>, NoMemory>
+pub fn copied_vector(alloc: Global, vector: &[u32]) -> Result<List<u32>, NoMemory>
     ensures { IfOk result (λ made. made ≡ vector.now) }
 {
     let mut made = List::new(alloc);
