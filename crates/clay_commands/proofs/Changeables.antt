@@ -1,23 +1,19 @@
 -- Where no condition of a command fails, it can change each statement under its prefix.
-use Rattle.std.proofs.Common.{◌≡◌, ℕ, zero, suc, ◌+◌, ◌<◌, ◌≤◌, ◌≤ℤ◌, ◌==◌, Bool, true, false, not, ◌&&◌, ◌||◌, if◌then◌else◌, inl, inr, Option, Some, None, List, [], ◌∷◌, length, get_or, map, ℤ, pos, negsuc, int_le, refl, ap, sym, ◌∙◌, arith}
+use Rattle.std.proofs.Common.{◌≡◌, ℕ, zero, suc, ◌<◌, ◌≤ℤ◌, ◌==◌, Bool, true, false, not, ◌&&◌, ◌||◌, None, List, [], ◌∷◌, length, get_or, ℤ, pos, negsuc, int_le, refl, sym, ◌∙◌, arith}
 use Rattle.std.specs.Prelude.{All}
 use Rattle.std.specs.Ordering.{int_eq}
 use Rattle.std.proofs.lemmas.Bool.{eqb-true}
 use Rattle.std.proofs.lemmas.Int.{ints}
 use Rattle.std.proofs.lemmas.List.Elements.{All-head, All-tail}
-use Rattle.suite_base.specs.declared.refusals.Refusal.{Refusal}
-use Rattle.beta_tree.proofs.Places.{bool_tells}
 use Rattle.beta_tree.proofs.Orders.{and_left, and_right}
-use Rattle.beta_tree.specs.Vectors.{is_leaf}
 use Rattle.scop_core.specs.declared.affines.Affine.{Affine}
 use Rattle.scop_core.specs.declared.statements.Statement.{Statement}
 use Rattle.scop_core.specs.AffineSums.{HaveOneSize}
 use Rattle.scop_core.specs.SolvedRows.{HasSizes}
 use Rattle.clay_script.specs.declared.commands.Command.{Command}
 use Rattle.clay_script.specs.declared.commands.Command.TheVariants.{Fission, Fuse, Reorder, Interchange, Skew, Shift, Reverse, Stripmine, Tile, Iss}
-use Rattle.clay_commands.specs.declared.leaves.Leaf.{Leaf}
-use Rattle.clay_commands.specs.Arguments.{natural, place}
-use Rattle.clay_commands.specs.Drafts.{Draft, is_under, no_form, form_at}
+use Rattle.clay_commands.specs.Arguments.{place}
+use Rattle.clay_commands.specs.Drafts.{Draft, is_under, no_form}
 use Rattle.clay_commands.specs.Refusals.{all_under, has_level, is_within, can_cut, level_then, condition_under}
 use Rattle.clay_commands.specs.Steps.{AllUnder, IsChangeable, IsFormCommand, level_form}
 use Rattle.clay_commands.specs.Soundness.{IsSoundLeaf}

@@ -1,19 +1,16 @@
 -- Worked cases of the definitions.
-use Rattle.std.proofs.Common.{◌≡◌, ℕ, List, [], ◌∷◌, ℤ, pos, negsuc, Option, Some, None, refl}
-use Rattle.std.specs.Prelude.{length, map, true}
-use Rattle.suite_base.specs.declared.refusals.Refusal.{Refusal}
+use Rattle.std.proofs.Common.{◌≡◌, ℕ, List, [], ◌∷◌, ℤ, pos, negsuc, Some, None, refl}
+use Rattle.std.specs.Prelude.{map}
 use Rattle.suite_base.specs.declared.refusals.Refusal.TheVariants.{NoBeta, NotALoop, BadLevel, BadArgument, Overflow}
 use Rattle.suite_base.specs.declared.refusals.Where.TheVariants as count
 use Rattle.scop_core.specs.declared.affines.Affine.{Affine}
-use Rattle.scop_core.specs.declared.statements.Statement.{Statement}
 use Rattle.scop_core.specs.ScopData.{ScopData}
 use Rattle.scop_core.specs.Meaning.{Instance, stamp}
 use Rattle.clay_script.specs.declared.commands.Command.{Command}
 use Rattle.clay_script.specs.declared.commands.Command.TheVariants.{Fission, Fuse, Reorder, Interchange, Skew, Shift, Reverse, Stripmine, Tile, Iss}
 use Rattle.clay_commands.specs.Drafts.{betas_of, drafted, drafts_after}
-use Rattle.clay_commands.specs.Spots.{Place, edits, stamp_at, vectors_after}
-use Rattle.clay_commands.specs.Refusals.{first_refusal}
-use Rattle.clay_commands.specs.Afters.{after_script, refusal_of, IsFormed}
+use Rattle.clay_commands.specs.Spots.{edits, stamp_at, vectors_after}
+use Rattle.clay_commands.specs.Afters.{after_script, refusal_of}
 use Rattle.clay_commands.proofs.Samples.{form, part, at_least, ten, pair, line}
 
 -- strips of four of negative values: the first instance

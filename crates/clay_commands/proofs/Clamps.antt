@@ -1,8 +1,8 @@
 -- Arguments that fit no 32 bits change no answer of a tree.
-use Rattle.std.proofs.Common.{◌≡◌, ℕ, zero, suc, ◌+◌, ◌-◌, ◌^◌, ◌<◌, ◌≤◌, ◌==◌, nat_lt, min, Bool, true, false, not, if◌then◌else◌, ◌&&◌, inl, inr, Result, Ok, Err, List, [], ◌∷◌, map, length, ℤ, pos, negsuc, refl, ap, sym, ◌∙◌, append-nil, subst, arith}
-use Rattle.std.proofs.lemmas.Bool.{eqb-true, eqb-false, ltb-true, ltb-false}
+use Rattle.std.proofs.Common.{◌≡◌, ℕ, suc, ◌-◌, ◌^◌, ◌<◌, ◌≤◌, ◌==◌, nat_lt, min, Bool, true, false, not, if◌then◌else◌, ◌&&◌, inl, inr, Result, Ok, Err, List, [], ◌∷◌, map, length, ℤ, pos, negsuc, refl, ap, sym, ◌∙◌, append-nil, subst, arith}
+use Rattle.std.proofs.lemmas.Bool.{eqb-true, ltb-true, ltb-false}
 use Rattle.std.proofs.lemmas.List.{length-map}
-use Rattle.std.proofs.Math.Dec.{eqb, ltb}
+use Rattle.std.proofs.Math.Dec.{ltb}
 use Rattle.std.specs.Prelude.{OnOk, IfErr}
 use Rattle.suite_base.specs.declared.refusals.Fail.{Fail}
 use Rattle.beta_tree.specs.declared.refusals.BetaFail.{BetaFail}
@@ -15,9 +15,9 @@ use Rattle.clay_commands.specs.Refusals.{refused}
 use Rattle.clay_commands.specs.Steps.{fail_of}
 use Rattle.beta_tree.proofs.Places.{bool_tells, from_In-under}
 use Rattle.beta_tree.proofs.Trees.{child_below, no_leaf, some_under}
-use Rattle.beta_tree.proofs.Orders.{and_right, Orders, orders_of_test, entry_at, entry_below}
+use Rattle.beta_tree.proofs.Orders.{and_right, orders_of_test, entry_at, entry_below}
 use Rattle.beta_tree.proofs.Calls.{children_fit}
-use Rattle.clay_commands.specs.Arguments.{natural, are_natural, order_in, fits, all_fit}
+use Rattle.clay_commands.specs.Arguments.{natural, are_natural, order_in, all_fit}
 
 lt_false : (a b : ℕ) → b ≤ a → nat_lt a b ≡ false
 lt_false a b l = elim (bool_tells (nat_lt a b)) [ inl t ↦ absurd (let h = ltb-true a b t in omega arith) | inr f ↦ f ]

@@ -1,5 +1,5 @@
 -- The pieces of a SCoP with other statements.
-use Rattle.std.proofs.Common.{◌≡◌, ℕ, Option, Some, None, Result, List, [], ◌∷◌, map, refl, ap, sym, ◌∙◌, subst}
+use Rattle.std.proofs.Common.{◌≡◌, ℕ, Some, None, Result, List, [], ◌∷◌, map, refl, ap, sym, ◌∙◌, subst}
 use Rattle.std.specs.Prelude.{IfOk}
 use Rattle.suite_base.specs.declared.memory.NoMemory.{NoMemory}
 use Rattle.suite_base.specs.declared.refusals.Refusal.{Refusal}
@@ -7,7 +7,7 @@ use Rattle.suite_base.specs.declared.refusals.Fail.TheVariants.{Refused}
 use Rattle.scop_core.specs.declared.raw_pieces.RawStatement.{RawStatement}
 use Rattle.scop_core.specs.declared.raw_pieces.ScopPieces.{ScopPieces}
 use Rattle.scop_core.specs.ScopData.{ScopData}
-use Rattle.scop_core.specs.Assembly.{refusal_of, scop_of, HasCause}
+use Rattle.scop_core.specs.Assembly.{refusal_of, HasCause}
 use Rattle.scop_core.specs.ReadBack.{ReadBack, statement_pieces, pieces_of}
 use Rattle.clay_commands.specs.Drafts.{Draft}
 use Rattle.clay_commands.specs.Afters.{closed_leaf, closed}

@@ -1,15 +1,14 @@
 -- From a valid SCoP to its draft, and from a sound draft back to a SCoP.
-use Rattle.std.proofs.Common.{◌≡◌, ◌≢◌, ℕ, zero, suc, ◌+◌, ◌<◌, ◌≤◌, ◌^◌, true, ◌⊎◌, inl, inr, Option, Some, None, List, [], ◌∷◌, ◌++◌, map, length, get_or, take, ℤ, pos, refl, ap, sym, ◌∙◌, subst, add-one, arith}
-use Rattle.std.specs.Prelude.{All, slice_get, IfSome}
+use Rattle.std.proofs.Common.{◌≡◌, ℕ, zero, suc, ◌+◌, ◌<◌, ◌≤◌, ◌^◌, inl, inr, Some, List, [], ◌∷◌, ◌++◌, map, length, get_or, take, ℤ, pos, refl, ap, sym, ◌∙◌, subst, add-one, arith}
+use Rattle.std.specs.Prelude.{All, slice_get}
 use Rattle.std.proofs.lemmas.Int.{ints, by_lt_z}
 use Rattle.std.proofs.lemmas.List.{length-map}
 use Rattle.std.proofs.lemmas.List.Elements.{All-head, All-tail, All-cons, All-nil, All-map, All-weaker}
 use Rattle.row_core.specs.Dense.{dense_among, dense_of, rests}
-use Rattle.beta_tree.specs.Vectors.{In, Apart, ApartFromAll, PrefixFree, NoneEmpty, IsTree}
+use Rattle.beta_tree.specs.Vectors.{Apart, ApartFromAll, PrefixFree, NoneEmpty, IsTree}
 use Rattle.scop_core.specs.declared.statements.Statement.{Statement}
 use Rattle.scop_core.specs.ScopData.{ScopData, betas_in}
 use Rattle.scop_core.specs.Order.{IsPrefix}
-use Rattle.scop_core.specs.Theorems.{IsStatement}
 use Rattle.scop_core.specs.Validity.{IsValid}
 use Rattle.scop_core.specs.Shapes.{IsShapedStatement}
 use Rattle.scop_core.specs.KeptLimits.{StatementKeepsLimits}

@@ -1,17 +1,16 @@
 -- The leaves after a level was cut into strips.
-use Rattle.std.proofs.Common.{◌≡◌, ℕ, zero, suc, ◌+◌, ◌-◌, ◌<◌, ◌≤◌, ◌^◌, min, Bool, true, false, if◌then◌else◌, inl, inr, Option, Some, None, Result, Ok, Err, List, [], ◌∷◌, ◌++◌, map, length, ℤ, pos, negsuc, int_le, ◌≤ℤ◌, refl, ap, sym, ◌∙◌, subst, arith}
+use Rattle.std.proofs.Common.{◌≡◌, ℕ, ◌+◌, ◌-◌, ◌<◌, ◌≤◌, ◌^◌, min, Bool, true, false, if◌then◌else◌, inl, inr, Option, None, Result, Ok, Err, List, [], ◌∷◌, ◌++◌, map, length, ℤ, pos, negsuc, int_le, refl, ap, sym, ◌∙◌, subst, arith}
 use Rattle.std.specs.Prelude.{All}
-use Rattle.std.specs.List.{flat_map}
 use Rattle.std.proofs.lemmas.Int.{ints}
 use Rattle.std.proofs.lemmas.List.{length-map}
 use Rattle.std.proofs.lemmas.List.Elements.{All-head, All-tail}
 use Rattle.suite_base.specs.declared.refusals.Refusal.{Refusal}
 use Rattle.beta_tree.specs.declared.refusals.BetaFail.{BetaFail}
 use Rattle.beta_tree.specs.declared.refusals.BetaFail.TheVariants.{Memory, NoBeta, NotALoop, BadArgument}
-use Rattle.beta_tree.specs.Vectors.{after, no_statement, In, LongerUnder}
+use Rattle.beta_tree.specs.Vectors.{no_statement, In, LongerUnder}
 use Rattle.beta_tree.specs.Edits.{with_level}
 use Rattle.beta_tree.specs.Answers.{HasCause as CauseOfBetas, level_answer}
-use Rattle.beta_tree.proofs.Places.{after_append, after_is, from_In-under}
+use Rattle.beta_tree.proofs.Places.{after_append, from_In-under}
 use Rattle.beta_tree.proofs.Trees.{some_under}
 use Rattle.beta_tree.proofs.Orders.{and_right}
 use Rattle.scop_core.specs.declared.statements.Statement.{Statement}
@@ -25,7 +24,7 @@ use Rattle.clay_commands.specs.Refusals.{has_level, is_within, can_cut, conditio
 use Rattle.clay_commands.specs.Steps.{AllUnder, IsFormCommand, changed, joined, IsCut, fail_of}
 use Rattle.clay_commands.specs.Soundness.{IsSoundLeaf, IsStep}
 use Rattle.clay_commands.proofs.Changeables.{le_true, passes, level_passed, cut_within, cut_prefix}
-use Rattle.clay_commands.proofs.DraftMaps.{maps_to, changed_betas, unrefused_command}
+use Rattle.clay_commands.proofs.DraftMaps.{maps_to, unrefused_command}
 
 -- vectors joined to leaves
 

@@ -3,7 +3,6 @@ use Rattle.std.proofs.Common.{◌≡◌, ℕ, ◌<◌, ◌^◌, ◌≤◌, nat_l
 use Rattle.std.specs.List.{flat_map}
 use Rattle.std.proofs.lemmas.Bool.{leb-true, leb-false}
 use Rattle.suite_base.specs.declared.refusals.Refusal.{Refusal}
-use Rattle.suite_base.specs.declared.refusals.Fail.{Fail}
 use Rattle.beta_tree.proofs.Places.{bool_tells}
 use Rattle.scop_core.specs.declared.statements.Statement.{Statement}
 use Rattle.scop_core.specs.Assembly.{or_else, HasCause}
@@ -13,7 +12,7 @@ use Rattle.clay_commands.specs.declared.leaves.Leaf.{Leaf}
 use Rattle.clay_commands.specs.declared.edit_fails.EditFail.{EditFail}
 use Rattle.clay_commands.specs.declared.edit_fails.EditFail.TheVariants.{Memory, Heavy}
 use Rattle.clay_commands.specs.Arguments.{natural, prefix_in}
-use Rattle.clay_commands.specs.Drafts.{Draft, betas_of, is_under, with_beta, forms_after, scheduled, leaf_after, draft_after}
+use Rattle.clay_commands.specs.Drafts.{Draft, betas_of, is_under, forms_after, scheduled, leaf_after, draft_after}
 use Rattle.clay_commands.specs.Refusals.{condition_under, limit_of, overflow_of, most_under, statement_weight}
 use Rattle.clay_commands.specs.Steps.{IsHeavy, IsPlainCommand, IsLevelCommand, IsFormCommand, changed, edit_fail_of, refusal_under}
 use Rattle.clay_commands.specs.Soundness.{IsStep}

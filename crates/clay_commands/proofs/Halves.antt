@@ -1,16 +1,15 @@
 -- The leaves after a split.
-use Rattle.std.proofs.Common.{◌≡◌, ℕ, zero, suc, ◌+◌, ◌<◌, Bool, true, false, if◌then◌else◌, ◌⊎◌, inl, inr, List, [], ◌∷◌, ◌++◌, map, length, get_or, set, take, drop, ℤ, refl, ap, sym, ◌∙◌, subst, add-one, arith}
-use Rattle.std.specs.Prelude.{insert, slice_set}
+use Rattle.std.proofs.Common.{◌≡◌, ℕ, suc, ◌+◌, ◌<◌, true, false, if◌then◌else◌, inl, inr, List, [], ◌∷◌, ◌++◌, map, length, get_or, set, ℤ, refl, ap, sym, ◌∙◌, subst, add-one, arith}
+use Rattle.std.specs.Prelude.{insert}
 use Rattle.std.specs.List.{flat_map}
-use Rattle.beta_tree.specs.Vectors.{Apart, ApartFromAll, PrefixFree, In}
+use Rattle.beta_tree.specs.Vectors.{Apart, ApartFromAll, PrefixFree}
 use Rattle.beta_tree.specs.Edits.{same_vector, leaf_split, below, front, last, make_room, next_sibling}
 use Rattle.beta_tree.proofs.Places.{bool_tells}
 use Rattle.beta_tree.proofs.Leaves.{same_vector_yes}
-use Rattle.clay_script.specs.declared.commands.Command.{Command}
 use Rattle.clay_script.specs.declared.commands.Command.TheVariants.{Iss}
 use Rattle.clay_commands.specs.declared.leaves.Leaf.{Leaf}
 use Rattle.clay_commands.specs.Arguments.{natural}
-use Rattle.clay_commands.specs.Drafts.{Draft, betas_of, with_beta, halves, leaf_after, draft_after}
+use Rattle.clay_commands.specs.Drafts.{Draft, betas_of, with_beta, halves, leaf_after}
 use Rattle.clay_commands.specs.Steps.{joined, first_half, second_half, place_in, split_at}
 
 apart_self : (v : List ℕ) → Apart v v → ⊥

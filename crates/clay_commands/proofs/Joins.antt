@@ -1,7 +1,7 @@
 -- Leaves with the vectors of a list, and one turn of the loop that gives them.
-use Rattle.std.proofs.Common.{◌≡◌, ℕ, zero, suc, ◌+◌, ◌<◌, List, [], ◌∷◌, ◌++◌, map, length, get_or, set, take, drop, refl, ap, sym, ◌∙◌, add-one, arith}
+use Rattle.std.proofs.Common.{◌≡◌, ℕ, zero, suc, ◌+◌, ◌<◌, List, [], ◌∷◌, ◌++◌, length, get_or, set, take, drop, refl, ap, sym, ◌∙◌, add-one, arith}
 use Rattle.clay_commands.specs.declared.leaves.Leaf.{Leaf}
-use Rattle.clay_commands.specs.Drafts.{Draft, betas_of, with_beta}
+use Rattle.clay_commands.specs.Drafts.{Draft, with_beta}
 use Rattle.clay_commands.specs.Steps.{joined}
 
 at_hand : (V : List (List ℕ)) (D : Draft) (k : ℕ) (d : Leaf) → k < length V → k < length D → get_or (joined (take k V) (take k D) ++ drop k D) k d ≡ get_or D k d

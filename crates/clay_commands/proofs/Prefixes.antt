@@ -1,18 +1,17 @@
 -- A prefix that fits 32 bits and has statements, and one that doesn't.
-use Rattle.std.proofs.Common.{◌≡◌, ℕ, ◌+◌, ◌<◌, ◌≤◌, ◌^◌, nat_lt, Bool, true, false, not, ◌||◌, ◌&&◌, if◌then◌else◌, inl, inr, Option, Some, None, List, [], ◌∷◌, ◌++◌, map, ℤ, pos, negsuc, refl, ap, sym, ◌∙◌, subst, arith}
-use Rattle.std.proofs.lemmas.Bool.{ltb-true, ltb-false}
+use Rattle.std.proofs.Common.{◌≡◌, ℕ, ◌^◌, nat_lt, Bool, true, false, not, ◌||◌, ◌&&◌, if◌then◌else◌, inl, inr, Option, Some, List, [], ◌∷◌, ◌++◌, map, ℤ, pos, negsuc, refl, ap, sym, ◌∙◌, subst, arith}
+use Rattle.std.proofs.lemmas.Bool.{ltb-false}
 use Rattle.suite_base.specs.declared.refusals.Refusal.{Refusal}
 use Rattle.suite_base.specs.declared.refusals.Refusal.TheVariants as refusal
-use Rattle.beta_tree.specs.Vectors.{no_statement, In, Fit, IsTree}
+use Rattle.beta_tree.specs.Vectors.{no_statement, Fit, IsTree}
 use Rattle.beta_tree.proofs.Places.{bool_tells, from_In-under}
 use Rattle.beta_tree.proofs.Trees.{some_under, fit_of_tree}
-use Rattle.beta_tree.proofs.Orders.{and_left, and_right}
 use Rattle.scop_core.specs.Assembly.{or_else}
 use Rattle.clay_script.specs.declared.commands.Command.{Command}
 use Rattle.clay_script.specs.Commands.{prefix_of}
-use Rattle.clay_commands.specs.Arguments.{natural, are_natural, prefix_in, fits, all_fit}
+use Rattle.clay_commands.specs.Arguments.{natural, are_natural, prefix_in, all_fit}
 use Rattle.clay_commands.specs.Drafts.{Draft, betas_of}
-use Rattle.clay_commands.specs.Refusals.{condition_of, condition_under, limit_of, overflow_of, refusal_at}
+use Rattle.clay_commands.specs.Refusals.{condition_under, limit_of, overflow_of, refusal_at}
 use Rattle.clay_commands.specs.Steps.{refusal_under}
 use Rattle.clay_commands.specs.Soundness.{IsStep, IsCommandStep}
 use Rattle.clay_commands.proofs.Clamps.{fit_natural}

@@ -1,11 +1,10 @@
 -- SCoPs and scripts on which the definitions are tried.
-use Rattle.std.proofs.Common.{ℕ, List, [], ◌∷◌, ℤ, pos, negsuc, Some, None}
+use Rattle.std.proofs.Common.{ℕ, List, [], ◌∷◌, ℤ, pos, negsuc, None}
 use Rattle.std.specs.Prelude.{codes}
 use Rattle.relation_core.specs.Systems.{System}
 use Rattle.relation_core.specs.declared.part_rows.PartRow.{PartRow}
 use Rattle.relation_core.specs.declared.part_rows.RowKind.TheVariants.{AtLeast}
 use Rattle.scop_core.specs.declared.affines.Affine.{Affine}
-use Rattle.scop_core.specs.declared.schedules.Schedule.{Schedule}
 use Rattle.scop_core.specs.declared.statements.Statement.{Statement}
 use Rattle.scop_core.specs.ScopData.{ScopData}
 

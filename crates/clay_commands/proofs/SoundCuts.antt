@@ -1,16 +1,14 @@
 -- Leaves stay sound where a level is cut into strips.
-use Rattle.std.proofs.Common.{◌≡◌, ℕ, zero, suc, ◌+◌, ◌*◌, ◌-◌, ◌<◌, ◌≤◌, ◌^◌, nat_le, max, Bool, true, false, if◌then◌else◌, inl, inr, Option, Some, None, List, [], ◌∷◌, ◌++◌, map, length, get_or, take, drop, ℤ, pos, negsuc, neg_ℤ, ◌+ℤ◌, ◌≤ℤ◌, int_le, unsigned_abs, refl, ap, sym, ◌∙◌, subst, arith, length-append}
+use Rattle.std.proofs.Common.{◌≡◌, ℕ, zero, suc, ◌+◌, ◌*◌, ◌<◌, ◌≤◌, ◌^◌, nat_le, Bool, true, if◌then◌else◌, inl, inr, Some, None, List, [], ◌∷◌, ◌++◌, map, length, get_or, take, drop, ℤ, pos, negsuc, neg_ℤ, ◌+ℤ◌, ◌≤ℤ◌, int_le, unsigned_abs, refl, ap, sym, ◌∙◌, subst, arith, length-append}
 use Rattle.std.specs.Prelude.{All, insert}
 use Rattle.std.proofs.lemmas.Int.{ints}
-use Rattle.std.proofs.lemmas.Bool.{leb-true, leb-false}
+use Rattle.std.proofs.lemmas.Bool.{leb-false}
 use Rattle.std.proofs.lemmas.List.{length-map, length-replicate}
 use Rattle.std.proofs.lemmas.List.Edits.{length-insert}
 use Rattle.std.proofs.lemmas.List.Elements.{All-head, All-tail, All-cons, All-nil, All-append, All-take, All-drop, All-map, All-weaker, All-get_or}
 use Rattle.beta_tree.proofs.Places.{bool_tells}
 use Rattle.beta_tree.proofs.Orders.{and_right}
-use Rattle.beta_tree.specs.Edits.{with_level}
 use Rattle.row_core.specs.Rows.{entry}
-use Rattle.suite_base.specs.declared.refusals.Refusal.{Refusal}
 use Rattle.suite_base.specs.declared.refusals.Refusal.TheVariants.{Limit}
 use Rattle.suite_base.specs.declared.refusals.Which.TheVariants.{Levels, Locals}
 use Rattle.scop_core.specs.declared.affines.Affine.{Affine}
@@ -26,11 +24,11 @@ use Rattle.clay_commands.specs.declared.leaves.Leaf.{Leaf}
 use Rattle.clay_commands.specs.Arguments.{natural, prefix_in, place}
 use Rattle.clay_commands.specs.Drafts.{Draft, is_under, with_beta, no_form, form_at, widened_floor, cut, forms_after, scheduled}
 use Rattle.clay_commands.specs.Refusals.{has_level, floor_weight, statement_weight, most_under, cut_limit}
-use Rattle.clay_commands.specs.Steps.{AllUnder, IsCut, IsChangeable, changed}
+use Rattle.clay_commands.specs.Steps.{AllUnder, IsCut, IsChangeable}
 use Rattle.clay_commands.specs.Soundness.{IsSoundLeaf, SizesFit}
 use Rattle.clay_commands.proofs.Changeables.{le_true, level_place}
 use Rattle.clay_commands.proofs.Cuts.{cut_leaf, longer_leaf}
-use Rattle.clay_commands.proofs.SoundForms.{IsSoundSchedule, closed_schedule, own_schedule, sound_with, sound_beta}
+use Rattle.clay_commands.proofs.SoundForms.{IsSoundSchedule, own_schedule, sound_with}
 
 -- entries past the end, and of a form with one more 0
 

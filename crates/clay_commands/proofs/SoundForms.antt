@@ -1,24 +1,22 @@
 -- Leaves stay sound where a command edits their vectors, or the forms of their levels.
-use Rattle.std.proofs.Common.{◌≡◌, ℕ, zero, suc, ◌+◌, ◌*◌, ◌<◌, ◌≤◌, Bool, true, false, if◌then◌else◌, inl, inr, Option, Some, None, List, [], ◌∷◌, ◌++◌, map, length, get_or, set, ℤ, pos, neg_ℤ, refl, ap, sym, ◌∙◌, subst, arith}
-use Rattle.std.specs.Prelude.{All, swap, slice_set}
+use Rattle.std.proofs.Common.{◌≡◌, ℕ, ◌+◌, ◌*◌, ◌<◌, ◌≤◌, true, if◌then◌else◌, inl, inr, List, [], ◌∷◌, map, length, get_or, set, ℤ, pos, neg_ℤ, refl, ap, sym, ◌∙◌, subst, arith}
+use Rattle.std.specs.Prelude.{All, swap}
 use Rattle.std.proofs.lemmas.List.{length-map, length-set}
 use Rattle.std.proofs.lemmas.List.Edits.{length-swap}
-use Rattle.std.proofs.lemmas.List.Elements.{All-head, All-tail, All-cons, All-nil, All-set, All-map, All-get_or}
+use Rattle.std.proofs.lemmas.List.Elements.{All-head, All-tail, All-cons, All-nil, All-set, All-get_or}
 use Rattle.beta_tree.proofs.Places.{bool_tells}
 use Rattle.row_core.specs.Rows.{add_rows, scale}
 use Rattle.scop_core.specs.declared.affines.Affine.{Affine}
 use Rattle.scop_core.specs.declared.schedules.Schedule.{Schedule}
 use Rattle.scop_core.specs.declared.statements.Statement.{Statement}
 use Rattle.scop_core.specs.AffineSums.{plus_multiple, moved, negative}
-use Rattle.scop_core.specs.SolvedRows.{HasSizes, HasRelation, schedule_shape}
+use Rattle.scop_core.specs.SolvedRows.{HasSizes}
 use Rattle.scop_core.specs.ReadBack.{IsSolvedSchedule}
-use Rattle.relation_core.specs.Systems.{HasLimits}
 use Rattle.clay_script.specs.declared.commands.Command.{Command}
 use Rattle.clay_script.specs.declared.commands.Command.TheVariants.{Fission, Fuse, Reorder, Interchange, Skew, Shift, Reverse, Stripmine, Tile, Iss}
 use Rattle.clay_commands.specs.declared.leaves.Leaf.{Leaf}
-use Rattle.clay_commands.specs.Arguments.{natural, place}
-use Rattle.clay_commands.specs.Drafts.{Draft, is_under, with_beta, no_form, form_at, with_form, forms_after, scheduled}
-use Rattle.clay_commands.specs.Refusals.{has_level}
+use Rattle.clay_commands.specs.Arguments.{place}
+use Rattle.clay_commands.specs.Drafts.{Draft, is_under, with_beta, no_form, forms_after, scheduled}
 use Rattle.clay_commands.specs.Steps.{AllUnder, IsPlainCommand, IsChangeable, changed, level_form}
 use Rattle.clay_commands.specs.Soundness.{IsSoundLeaf}
 use Rattle.clay_commands.proofs.Changeables.{level_place}

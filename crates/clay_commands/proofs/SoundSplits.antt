@@ -1,25 +1,21 @@
 -- Leaves stay sound where one of them is split, and after any command that is not refused.
-use Rattle.std.proofs.Common.{◌≡◌, ℕ, zero, suc, ◌+◌, ◌<◌, ◌≤◌, ◌^◌, nat_le, max, Bool, true, false, not, ◌||◌, ◌&&◌, if◌then◌else◌, inl, inr, Option, Some, None, List, [], ◌∷◌, ◌++◌, map, length, get_or, ℤ, pos, negsuc, neg_ℤ, ◌+ℤ◌, refl, ap, sym, ◌∙◌, subst, arith, length-append, append-nil}
+use Rattle.std.proofs.Common.{◌≡◌, ℕ, ◌+◌, ◌<◌, ◌≤◌, ◌^◌, nat_le, Bool, true, false, not, ◌||◌, if◌then◌else◌, inl, inr, Option, Some, None, List, [], ◌∷◌, map, length, ℤ, pos, negsuc, neg_ℤ, ◌+ℤ◌, refl, ap, sym, ◌∙◌, subst, arith, length-append}
 use Rattle.std.specs.Prelude.{All}
 use Rattle.std.specs.List.{flat_map, list_any}
-use Rattle.std.specs.Option.{is_some}
-use Rattle.std.proofs.lemmas.Bool.{leb-true, leb-false}
+use Rattle.std.proofs.lemmas.Bool.{leb-false}
 use Rattle.std.proofs.lemmas.List.{length-map}
 use Rattle.std.proofs.lemmas.List.Elements.{All-head, All-tail, All-cons, All-nil, All-append, All-map, All-weaker}
-use Rattle.suite_base.specs.declared.refusals.Refusal.{Refusal}
 use Rattle.suite_base.specs.declared.refusals.Refusal.TheVariants as refusal
 use Rattle.suite_base.specs.declared.refusals.Where.TheVariants as count
 use Rattle.suite_base.specs.declared.refusals.Which.TheVariants.{Statements, Rows}
-use Rattle.beta_tree.specs.Vectors.{after, no_statement, children_of, IsTree}
-use Rattle.beta_tree.specs.Edits.{same_vector, next_sibling, below, front, last, make_room, leaf_split}
+use Rattle.beta_tree.specs.Vectors.{no_statement, children_of, IsTree}
+use Rattle.beta_tree.specs.Edits.{same_vector, next_sibling, leaf_split}
 use Rattle.beta_tree.proofs.Places.{bool_tells}
-use Rattle.beta_tree.proofs.Orders.{and_left, and_right}
 use Rattle.beta_tree.proofs.Leaves.{same_vector_yes}
 use Rattle.beta_tree.proofs.Lengths.{operations_keep_lengths, sibling_is_as_long}
 use Rattle.beta_tree.proofs.Trees.{not_true}
 use Rattle.relation_core.specs.Systems.{System, with_row}
 use Rattle.relation_core.specs.declared.part_rows.RowKind.TheVariants.{AtLeast}
-use Rattle.scop_core.specs.declared.statements.Statement.{Statement}
 use Rattle.scop_core.specs.Assembly.{or_else}
 use Rattle.scop_core.specs.Printable.{IsDomainPart, has_part}
 use Rattle.clay_script.specs.declared.commands.Command.{Command}
@@ -29,14 +25,14 @@ use Rattle.clay_commands.specs.declared.leaves.Leaf.{Leaf}
 use Rattle.clay_commands.specs.Arguments.{natural, are_natural, prefix_in, order_in}
 use Rattle.clay_commands.specs.Drafts.{Draft, betas_of, is_under, with_beta, vector_after, restricted, condition_row, parts_where, halves, leaf_after, draft_after}
 use Rattle.clay_commands.specs.Refusals.{has_level, has_full_part, all_under, condition_of, condition_under, limit_of, overflow_of, most_under, statement_weight, cut_limit, refusal_at}
-use Rattle.clay_commands.specs.Steps.{AllUnder, IsVectorCommand, IsPlainCommand, IsFormCommand, IsCut, IsChangeable, changed}
+use Rattle.clay_commands.specs.Steps.{AllUnder, IsVectorCommand, IsPlainCommand, IsCut, IsChangeable, changed}
 use Rattle.clay_commands.specs.Soundness.{IsSoundLeaf, IsSound, SizesFit}
 use Rattle.clay_commands.proofs.Changeables.{passes, AllUnder-with, changeable}
 use Rattle.clay_commands.proofs.DraftMaps.{maps_to, plain_draft, plain_forms}
 use Rattle.clay_commands.proofs.Cuts.{cut_leaf, leaf_cut, cut_condition, cut_forms, limit_is}
 use Rattle.clay_commands.proofs.VectorMaps.{vector_leaf}
 use Rattle.clay_commands.proofs.Halves.{room}
-use Rattle.clay_commands.proofs.SplitFacts.{own_prefix, facts_of, split_long, place_among}
+use Rattle.clay_commands.proofs.SplitFacts.{own_prefix, facts_of, split_long}
 use Rattle.clay_commands.proofs.SoundForms.{sound_beta, sound_plain, sound_vectors}
 use Rattle.clay_commands.proofs.SoundCuts.{CanCut, sound_cuts, all_below, cut_room}
 

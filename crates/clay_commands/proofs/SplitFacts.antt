@@ -1,15 +1,14 @@
 -- What the conditions and limits of a split say, and the step that it is.
-use Rattle.std.proofs.Common.{◌≡◌, ℕ, zero, suc, ◌+◌, ◌<◌, ◌≤◌, ◌^◌, ◌==◌, nat_le, nat_lt, max, Bool, true, false, not, ◌&&◌, if◌then◌else◌, inl, inr, Option, Some, None, Result, Ok, Err, List, [], ◌∷◌, ◌++◌, map, length, get_or, set, ℤ, unsigned_abs, refl, ap, sym, ◌∙◌, subst, add-one, append-nil, arith}
+use Rattle.std.proofs.Common.{◌≡◌, ℕ, ◌+◌, ◌<◌, ◌≤◌, ◌^◌, ◌==◌, nat_le, nat_lt, max, Bool, true, false, not, ◌&&◌, if◌then◌else◌, inl, inr, Option, Some, None, Result, Ok, Err, List, [], ◌∷◌, ◌++◌, map, length, get_or, set, ℤ, unsigned_abs, refl, ap, sym, ◌∙◌, subst, add-one, append-nil, arith}
 use Rattle.std.specs.Prelude.{All}
 use Rattle.std.specs.List.{flat_map}
 use Rattle.std.specs.Option.{is_some}
-use Rattle.std.proofs.lemmas.Bool.{eqb-true, leb-true, leb-false, ltb-true, ltb-false}
+use Rattle.std.proofs.lemmas.Bool.{eqb-true, leb-false, ltb-false}
 use Rattle.std.proofs.lemmas.List.Elements.{All-head, All-tail}
 use Rattle.suite_base.specs.declared.refusals.Refusal.{Refusal}
 use Rattle.suite_base.specs.declared.refusals.Refusal.TheVariants as refusal
 use Rattle.suite_base.specs.declared.refusals.Where.TheVariants as count
 use Rattle.suite_base.specs.declared.refusals.Which.TheVariants.{Statements, Rows}
-use Rattle.suite_base.specs.declared.refusals.Fail.{Fail}
 use Rattle.suite_base.specs.declared.refusals.Fail.TheVariants.{Refused}
 use Rattle.beta_tree.specs.declared.refusals.BetaFail.{BetaFail}
 use Rattle.beta_tree.specs.declared.refusals.BetaFail.TheVariants as beta
@@ -17,19 +16,18 @@ use Rattle.beta_tree.specs.Vectors.{after, no_statement, is_leaf, In, ApartFromA
 use Rattle.beta_tree.specs.Edits.{same_vector, leaf_split}
 use Rattle.beta_tree.specs.Answers.{HasCause as CauseOfBetas, leaf_answer}
 use Rattle.beta_tree.proofs.Places.{bool_tells, after_append, from_In-under}
-use Rattle.beta_tree.proofs.Trees.{leaf_in, some_under, not_true}
+use Rattle.beta_tree.proofs.Trees.{leaf_in, some_under}
 use Rattle.beta_tree.proofs.Orders.{and_left, and_right}
 use Rattle.beta_tree.proofs.Leaves.{same_vector_yes, same_vector_refl}
 use Rattle.clay_commands.specs.declared.edit_fails.EditFail.TheVariants.{Heavy}
-use Rattle.scop_core.specs.declared.statements.Statement.{Statement}
-use Rattle.scop_core.specs.Assembly.{or_else, HasCause}
+use Rattle.scop_core.specs.Assembly.{HasCause}
 use Rattle.scop_core.specs.Printable.{IsDomainPart}
 use Rattle.clay_script.specs.declared.commands.Command.{Command}
 use Rattle.clay_script.specs.declared.commands.Command.TheVariants.{Fission, Fuse, Reorder, Interchange, Skew, Shift, Reverse, Stripmine, Tile, Iss}
 use Rattle.clay_commands.specs.declared.leaves.Leaf.{Leaf}
 use Rattle.clay_commands.specs.Arguments.{natural, prefix_in}
 use Rattle.clay_commands.specs.Drafts.{Draft, betas_of, is_under, draft_after}
-use Rattle.clay_commands.specs.Refusals.{condition_under, limit_of, overflow_of, most_under, statement_weight, all_under, has_full_part}
+use Rattle.clay_commands.specs.Refusals.{condition_under, limit_of, most_under, statement_weight, all_under, has_full_part}
 use Rattle.clay_commands.specs.Steps.{AllUnder, IsSplitBy, joined, split_at, first_half, second_half, place_in, refusal_under, fail_of}
 use Rattle.clay_commands.specs.Soundness.{IsSoundLeaf, IsSound, IsStep}
 use Rattle.clay_commands.proofs.LeafLoops.{holds_at}

@@ -1,24 +1,22 @@
 -- The leaves after a command that edits vectors alone.
-use Rattle.std.proofs.Common.{◌≡◌, ℕ, ◌+◌, ◌<◌, ◌^◌, max, nat_lt, nat_le, Bool, true, false, not, ◌&&◌, if◌then◌else◌, inl, inr, Option, Some, None, Result, Ok, Err, List, [], ◌∷◌, ◌++◌, map, length, ℤ, refl, ap, sym, ◌∙◌, subst, arith}
+use Rattle.std.proofs.Common.{◌≡◌, ℕ, ◌^◌, max, nat_lt, nat_le, Bool, true, false, not, ◌&&◌, if◌then◌else◌, Option, Some, None, Result, Ok, Err, List, [], ◌∷◌, map, length, refl, ap, sym, ◌∙◌, subst, arith}
 use Rattle.std.proofs.lemmas.List.{length-map}
 use Rattle.suite_base.specs.declared.refusals.Refusal.{Refusal}
 use Rattle.suite_base.specs.declared.refusals.Refusal.TheVariants as refusal
 use Rattle.suite_base.specs.declared.refusals.Where.TheVariants as count
 use Rattle.suite_base.specs.declared.refusals.Fail.{Fail}
-use Rattle.suite_base.specs.declared.refusals.Fail.TheVariants.{Memory, Refused}
 use Rattle.beta_tree.specs.declared.refusals.BetaFail.{BetaFail}
 use Rattle.beta_tree.specs.declared.refusals.BetaFail.TheVariants as beta
 use Rattle.beta_tree.specs.Vectors.{no_statement, is_leaf, is_loop, is_nil, children_of}
 use Rattle.beta_tree.specs.Edits.{fissioned, fused, reordered, next_sibling, is_permutation_of}
 use Rattle.beta_tree.specs.Answers.{fission_answer, fuse_answer, reorder_answer}
-use Rattle.scop_core.specs.declared.statements.Statement.{Statement}
 use Rattle.scop_core.specs.Assembly.{or_else, HasCause}
 use Rattle.clay_script.specs.declared.commands.Command.{Command}
 use Rattle.clay_script.specs.declared.commands.Command.TheVariants.{Fission, Fuse, Reorder, Interchange, Skew, Shift, Reverse, Stripmine, Tile, Iss}
 use Rattle.clay_commands.specs.declared.leaves.Leaf.{Leaf}
 use Rattle.clay_commands.specs.Arguments.{natural, order_in, prefix_in}
 use Rattle.clay_commands.specs.Drafts.{Draft, betas_of, is_under, with_beta, vector_after, leaf_after, draft_after}
-use Rattle.clay_commands.specs.Refusals.{refused, condition_under, limit_of, overflow_of, most_under, statement_weight}
+use Rattle.clay_commands.specs.Refusals.{refused, most_under}
 use Rattle.clay_commands.specs.Steps.{joined, IsVectorCommand, vector_answer, refusal_under}
 use Rattle.clay_commands.specs.Soundness.{IsStep}
 use Rattle.clay_commands.proofs.DraftMaps.{maps_to}

@@ -1,5 +1,5 @@
 -- The SCoP after a script, and when there is one.
-use Rattle.std.specs.Prelude.{◌≡◌, pos, ℕ, true, Option, List, [], map}
+use Rattle.std.specs.Prelude.{◌≡◌, pos, true, Option, List, [], map}
 use Rattle.suite_base.specs.declared.refusals.Refusal.{Refusal}
 use Rattle.scop_core.specs.declared.statements.Statement.{Statement}
 use Rattle.scop_core.specs.ScopData.{ScopData}

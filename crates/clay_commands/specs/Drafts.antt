@@ -1,5 +1,5 @@
 -- A SCoP as a list of leaves: its statements with dense beta vectors. What a command does to each leaf, over unbounded integers.
-use Rattle.std.specs.Prelude.{ℤ, pos, negsuc, neg_ℤ, ◌+ℤ◌, ℕ, ◌+◌, ◌-◌, Bool, true, false, if◌then◌else◌, is_some, List, [], ◌∷◌, ◌++◌, length, map, insert, swap, slice_set, get_or}
+use Rattle.std.specs.Prelude.{ℤ, pos, negsuc, neg_ℤ, ◌+ℤ◌, ℕ, ◌+◌, Bool, if◌then◌else◌, is_some, List, [], ◌∷◌, ◌++◌, map, insert, swap, slice_set, get_or}
 use Rattle.std.specs.List.{flat_map}
 use Rattle.beta_tree.specs.Vectors.{after, children_of, dense_of}
 use Rattle.beta_tree.specs.Edits.{fissioned, fused, reordered, with_level, below, front, last, make_room, next_sibling, same_vector}

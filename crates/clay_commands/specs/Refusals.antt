@@ -1,5 +1,5 @@
 -- What a command is refused for: its conditions, then its limits, then the weight of its sums. The first command with a refusal decides.
-use Rattle.std.specs.Prelude.{ℤ, pos, ℕ, ◌+◌, ◌-◌, ◌^◌, ◌==◌, nat_le, int_le, int_lt, Bool, true, false, not, ◌&&◌, ◌||◌, if◌then◌else◌, Option, Some, None, Result, Ok, Err, List, [], ◌∷◌, length, max, unsigned_abs, map, is_none}
+use Rattle.std.specs.Prelude.{ℤ, pos, ℕ, ◌+◌, ◌-◌, ◌^◌, ◌==◌, nat_le, int_le, Bool, true, not, ◌&&◌, ◌||◌, if◌then◌else◌, Option, Some, None, Result, Ok, Err, List, [], ◌∷◌, length, max, unsigned_abs, map, is_none}
 use Rattle.std.specs.List.{list_any}
 use Rattle.std.specs.Ordering.{int_eq}
 use Rattle.suite_base.specs.declared.refusals.Refusal.{Refusal}
@@ -10,9 +10,7 @@ use Rattle.beta_tree.specs.declared.refusals.BetaFail.{BetaFail}
 use Rattle.beta_tree.specs.declared.refusals.BetaFail.TheVariants as beta
 use Rattle.beta_tree.specs.Vectors.{no_statement, is_leaf}
 use Rattle.beta_tree.specs.Answers.{fission_answer, fuse_answer, reorder_answer}
-use Rattle.relation_core.specs.Systems.{System}
 use Rattle.scop_core.specs.declared.affines.Affine.{Affine}
-use Rattle.scop_core.specs.declared.schedules.Schedule.{Schedule}
 use Rattle.scop_core.specs.declared.statements.Statement.{Statement}
 use Rattle.scop_core.specs.AffineSums.{sum_weight, move_weight}
 use Rattle.scop_core.specs.Assembly.{or_else}
@@ -20,7 +18,6 @@ use Rattle.clay_script.specs.declared.commands.Command.{Command}
 use Rattle.clay_script.specs.declared.commands.Command.TheVariants.{Fission, Fuse, Reorder, Interchange, Skew, Shift, Reverse, Stripmine, Tile, Iss}
 use Rattle.clay_script.specs.Commands.{prefix_of}
 use Rattle.clay_commands.specs.Arguments.{natural, are_natural, prefix_in, order_in, place}
-use Rattle.clay_commands.specs.declared.leaves.Leaf.{Leaf}
 use Rattle.clay_commands.specs.Drafts.{Draft, betas_of, is_under, form_at, draft_after}
 
 -- every statement under P passes a test

@@ -9,7 +9,7 @@ use Rattle.scop_core.specs.declared.statements.Statement.{Statement}
 use Rattle.scop_core.specs.ScopData.{ScopData, betas_in}
 use Rattle.scop_core.specs.Meaning.{statement_at, floor_of, floors_after, levels_at, interleaved}
 use Rattle.clay_script.specs.declared.commands.Command.{Command}
-use Rattle.clay_script.specs.declared.commands.Command.TheVariants.{Fission, Fuse, Reorder, Interchange, Skew, Shift, Reverse, Stripmine, Tile, Iss}
+use Rattle.clay_script.specs.declared.commands.Command.TheVariants.{Interchange, Skew, Shift, Reverse, Stripmine, Tile, Iss}
 use Rattle.clay_commands.specs.Arguments.{natural, prefix_in, place}
 use Rattle.clay_commands.specs.Drafts.{is_under, vector_after}
 

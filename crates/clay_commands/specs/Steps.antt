@@ -1,5 +1,5 @@
 -- What the edits of leaves ask and answer, statement by statement.
-use Rattle.std.specs.Prelude.{◌≡◌, ◌≤◌, ◌^◌, ◌+◌, ℤ, pos, negsuc, neg_ℤ, ◌+ℤ◌, int_le, ℕ, Bool, true, false, if◌then◌else◌, Option, None, Result, Ok, List, [], ◌∷◌, length, map, insert, slice_set}
+use Rattle.std.specs.Prelude.{◌≡◌, ◌≤◌, ◌^◌, ◌+◌, ℤ, pos, negsuc, neg_ℤ, ◌+ℤ◌, int_le, ℕ, true, if◌then◌else◌, Option, Result, Ok, List, [], ◌∷◌, length, map, insert, slice_set}
 use Rattle.suite_base.specs.declared.refusals.Refusal.{Refusal}
 use Rattle.suite_base.specs.declared.refusals.Refusal.TheVariants as refusal
 use Rattle.suite_base.specs.declared.refusals.Where.TheVariants as count

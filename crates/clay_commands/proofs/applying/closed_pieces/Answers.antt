@@ -1,4 +1,3 @@
-use Rattle.std.proofs.Common.{sym}
 use Rattle.clay_commands.proofs.ClosedPieces.{closed_pieces_are}
 use Rattle.clay_commands.proofs.applying.closed_pieces.Goals as goal
 

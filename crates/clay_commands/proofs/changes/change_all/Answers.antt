@@ -1,4 +1,4 @@
-use Rattle.std.proofs.Common.{◌≡◌, ◌<◌, ◌^◌, length, get_or, rules}
+use Rattle.std.proofs.Common.{◌<◌, ◌^◌, length, rules}
 use Rattle.clay_commands.specs.Refusals.{statement_weight}
 use Rattle.clay_commands.specs.Steps.{IsChangeable, changed}
 use Rattle.clay_commands.proofs.LeafLoops.{still_there, holds_of_leaf, one_more, one_more_light, heavy_leaf}

@@ -1,4 +1,4 @@
-use Rattle.std.proofs.Common.{◌≡◌, ◌∙◌, sym, ap, subst, true, false, map, not}
+use Rattle.std.proofs.Common.{◌≡◌, ◌∙◌, sym, ap, subst, true, false, map}
 use Rattle.beta_tree.specs.Vectors.{IsTree, no_statement}
 use Rattle.beta_tree.proofs.Trees.{not_true}
 use Rattle.scop_core.specs.Assembly.{HasCause}

@@ -1,4 +1,4 @@
-use Rattle.std.proofs.Common.{◌≡◌, ◌<◌, ◌∙◌, length, rules}
+use Rattle.std.proofs.Common.{◌<◌, ◌∙◌, length, rules}
 use Rattle.clay_commands.proofs.Closings.{one_leaf_more}
 use Rattle.clay_commands.proofs.drafting.draft.Goals as goal
 

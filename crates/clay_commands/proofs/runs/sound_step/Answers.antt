@@ -1,6 +1,5 @@
 use Rattle.std.proofs.Common.{sym, subst}
 use Rattle.beta_tree.specs.Vectors.{IsTree}
-use Rattle.clay_commands.specs.Drafts.{betas_of}
 use Rattle.clay_commands.specs.Soundness.{IsSound}
 use Rattle.clay_commands.proofs.SoundSplits.{sound_after}
 use Rattle.clay_commands.proofs.runs.sound_step.Goals as goal

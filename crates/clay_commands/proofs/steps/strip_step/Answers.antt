@@ -1,4 +1,4 @@
-use Rattle.std.proofs.Common.{◌≡◌, ◌≤◌, ◌∙◌, sym, ap, subst, None, Ok, length}
+use Rattle.std.proofs.Common.{◌≡◌, ◌≤◌, ◌∙◌, sym, ap, subst, Ok, length}
 use Rattle.beta_tree.specs.Vectors.{LongerUnder}
 use Rattle.beta_tree.specs.Answers.{level_answer}
 use Rattle.clay_commands.specs.Arguments.{natural}

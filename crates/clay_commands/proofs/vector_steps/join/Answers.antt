@@ -1,4 +1,4 @@
-use Rattle.std.proofs.Common.{◌≡◌, ◌<◌, length, get_or, rules}
+use Rattle.std.proofs.Common.{◌<◌, length, rules}
 use Rattle.clay_commands.proofs.Joins.{one_joined}
 use Rattle.clay_commands.proofs.vector_steps.join.Goals as goal
 
