@@ -19,14 +19,14 @@ use scop_core::{Scop, ScopPieces};
 use std::alloc::Global;
 use suite_base::{Fail, NoMemory};
 
-/// The number of parameters of a SCoP.
+// The number of parameters of a SCoP.
 fn parameter_count(scop: &Scop) -> usize
     ensures { result ≡ scop.now.context.shape.parameters }
 {
     scop.context().shape().parameters
 }
 
-/// The leaves of a SCoP's draft.
+// The leaves of a SCoP's draft.
 fn drafted_leaves(alloc: Global, scop: &Scop, betas: &Betas) -> Result<Vec<Leaf>, NoMemory>
     requires { betas.now ≡ dense_of (betas_in scop.now.statements) }
     ensures leaves { IfOk result (λ leaves. leaves.items ≡ drafted scop.now) }
@@ -38,7 +38,7 @@ fn drafted_leaves(alloc: Global, scop: &Scop, betas: &Betas) -> Result<Vec<Leaf>
     Ok(leaves)
 }
 
-/// The pieces of a SCoP with these leaves in place of its statements.
+// The pieces of a SCoP with these leaves in place of its statements.
 fn closed_pieces(alloc: Global, scop: &Scop, leaves: &[Leaf]) -> Result<ScopPieces, NoMemory>
     requires { IsSound scop.now.context.shape.parameters leaves.now }
     ensures { IfOk result (λ pieces. pieces ≡ pieces_of (closed scop.now leaves.now)) }
@@ -48,7 +48,7 @@ fn closed_pieces(alloc: Global, scop: &Scop, leaves: &[Leaf]) -> Result<ScopPiec
     scop.pieces_with(alloc, statements)
 }
 
-/// The SCoP with these leaves in place of its statements.
+// The SCoP with these leaves in place of its statements.
 fn close(alloc: Global, scop: &Scop, betas: &Betas, leaves: &[Leaf]) -> Result<Scop, NoMemory>
     requires sound { IsSound scop.now.context.shape.parameters leaves.now }
     requires vectors { betas.now ≡ betas_of leaves.now }

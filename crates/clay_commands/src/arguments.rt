@@ -7,7 +7,7 @@ use row_core::Coeff;
 use std::alloc::Global;
 use suite_base::{List, NoMemory};
 
-/// The number as a beta; `None` where it is none of 32 bits.
+// The number as a beta; `None` where it is none of 32 bits.
 fn as_beta(number: Coeff) -> Option<u32>
     ensures { MatchOption result (fits number ≡ false) (λ n. (n ≡ natural number) × (fits number ≡ true)) }
 {

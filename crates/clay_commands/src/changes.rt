@@ -29,7 +29,7 @@ pub fn is_under(prefix: &[u32], vector: &[u32]) -> bool
     what_follows(prefix, vector).is_some()
 }
 
-/// Changes floors and levels of a statement as the command does.
+// Changes floors and levels of a statement as the command does.
 fn change(alloc: Global, command: &Command, statement: &mut Statement) -> Result<(), EditFail>
     requires { IsChangeable command.now statement.old }
     ensures ok { OnOk result (statement.new ≡ scheduled statement.old (forms_after command.now statement.old.schedule)) }
@@ -78,7 +78,7 @@ fn change(alloc: Global, command: &Command, statement: &mut Statement) -> Result
     }
 }
 
-/// Changes the statement of a leaf, where it is under the prefix.
+// Changes the statement of a leaf, where it is under the prefix.
 fn change_leaf(
     alloc: Global,
     command: &Command,

@@ -20,7 +20,7 @@ use clay_script::{Command, Vector};
 use std::alloc::Global;
 use suite_base::{Fail, Refusal};
 
-/// The beta prefix of a command.
+// The beta prefix of a command.
 fn prefix_of_command(command: &Command) -> &Vector
     ensures { result.now ≡ prefix_of command.now }
 {
@@ -38,7 +38,7 @@ fn prefix_of_command(command: &Command) -> &Vector
     }
 }
 
-/// Command number `i`, under whose prefix some statement is.
+// Command number `i`, under whose prefix some statement is.
 fn step_under(
     alloc: Global,
     parameters: usize,

@@ -27,14 +27,14 @@ pub fn has_statement(prefix: &[u32], leaves: &[Leaf]) -> bool
     false
 }
 
-/// Whether the statement has a level `k`, counted from 1.
+// Whether the statement has a level `k`, counted from 1.
 fn has_level(k: Coeff, statement: &Statement) -> bool
     ensures { result ≡ has_that_level k statement.now }
 {
     1 <= k.value() && k.value() <= statement.schedule.levels.len() as i128
 }
 
-/// Whether level `k` is one of each statement under the prefix.
+// Whether level `k` is one of each statement under the prefix.
 fn is_within(k: Coeff, prefix: &[u32], leaves: &[Leaf]) -> bool
     ensures { result ≡ is_level_within k prefix.now leaves.now }
 {
@@ -46,14 +46,14 @@ fn is_within(k: Coeff, prefix: &[u32], leaves: &[Leaf]) -> bool
     true
 }
 
-/// Whether levels `k` and `l` both are.
+// Whether levels `k` and `l` both are.
 fn are_within(k: Coeff, l: Coeff, prefix: &[u32], leaves: &[Leaf]) -> bool
     ensures { result ≡ (is_level_within k prefix.now leaves.now && is_level_within l prefix.now leaves.now) }
 {
     is_within(k, prefix, leaves) && is_within(l, prefix, leaves)
 }
 
-/// Whether level `k` can be cut into strips whose level stands at `t`.
+// Whether level `k` can be cut into strips whose level stands at `t`.
 fn can_cut(k: Coeff, t: Coeff, prefix: &[u32], leaves: &[Leaf]) -> bool
     ensures { result ≡ can_be_cut k t prefix.now leaves.now }
 {
@@ -63,7 +63,7 @@ fn can_cut(k: Coeff, t: Coeff, prefix: &[u32], leaves: &[Leaf]) -> bool
         && t.value() <= k.value()
 }
 
-/// The refusal where a level is not within, or an argument is not as it has to be.
+// The refusal where a level is not within, or an argument is not as it has to be.
 fn level_first(i: u32, level: bool, argument: bool) -> Option<Refusal>
     ensures { result ≡ level_then i level argument }
 {
@@ -76,7 +76,7 @@ fn level_first(i: u32, level: bool, argument: bool) -> Option<Refusal>
     None
 }
 
-/// Whether a statement's vector is the prefix.
+// Whether a statement's vector is the prefix.
 fn is_leaf(prefix: &[u32], leaves: &[Leaf]) -> bool
     ensures { result ≡ has_leaf prefix.now (betas_of leaves.now) }
 {
@@ -88,7 +88,7 @@ fn is_leaf(prefix: &[u32], leaves: &[Leaf]) -> bool
     false
 }
 
-/// Whether each statement under the prefix has `n` iterators.
+// Whether each statement under the prefix has `n` iterators.
 fn have_iterators(n: usize, prefix: &[u32], leaves: &[Leaf]) -> bool
     ensures { result ≡ all_under prefix.now (λ s. n == length s.body.iterators) leaves.now }
 {
@@ -100,7 +100,7 @@ fn have_iterators(n: usize, prefix: &[u32], leaves: &[Leaf]) -> bool
     true
 }
 
-/// Whether a condition of iterators and parameters can split the one statement under the prefix.
+// Whether a condition of iterators and parameters can split the one statement under the prefix.
 fn can_split(
     iterators: usize,
     parameters: usize,
@@ -152,7 +152,7 @@ pub fn level_condition(
     }
 }
 
-/// The greatest number of levels of a statement under the prefix.
+// The greatest number of levels of a statement under the prefix.
 fn most_levels(prefix: &[u32], leaves: &[Leaf]) -> usize
     ensures { result ≡ most_under prefix.now (λ s. length s.schedule.levels) leaves.now }
 {
@@ -165,7 +165,7 @@ fn most_levels(prefix: &[u32], leaves: &[Leaf]) -> usize
     most
 }
 
-/// The greatest number of floors of a statement under the prefix.
+// The greatest number of floors of a statement under the prefix.
 fn most_floors(prefix: &[u32], leaves: &[Leaf]) -> usize
     ensures { result ≡ most_under prefix.now (λ s. length s.schedule.floors) leaves.now }
 {
@@ -191,7 +191,7 @@ pub fn strip_limit(i: u32, prefix: &[u32], leaves: &[Leaf]) -> Option<Refusal>
     None
 }
 
-/// Whether some part of the statement's domain has 256 rows.
+// Whether some part of the statement's domain has 256 rows.
 fn has_full_part(statement: &Statement) -> bool
     ensures { result ≡ has_full statement.now }
 {
@@ -204,7 +204,7 @@ fn has_full_part(statement: &Statement) -> bool
     false
 }
 
-/// Whether no part of the domain of a statement under the prefix has 256 rows.
+// Whether no part of the domain of a statement under the prefix has 256 rows.
 fn have_room(prefix: &[u32], leaves: &[Leaf]) -> bool
     ensures { result ≡ all_under prefix.now (λ s. not (has_full s)) leaves.now }
 {

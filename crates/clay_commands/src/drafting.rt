@@ -16,7 +16,7 @@ use scop_core::{Pieces, RawStatement, Scop, Statement};
 use std::alloc::Global;
 use suite_base::{List, NoMemory};
 
-/// A copy of coefficients.
+// A copy of coefficients.
 fn copied_coeffs(alloc: Global, coeffs: &[Coeff]) -> Result<List<Coeff>, NoMemory>
     ensures { IfOk result (λ made. made ≡ coeffs.now) }
 {
@@ -27,7 +27,7 @@ fn copied_coeffs(alloc: Global, coeffs: &[Coeff]) -> Result<List<Coeff>, NoMemor
     Ok(made)
 }
 
-/// The beta vectors of statements.
+// The beta vectors of statements.
 fn vectors_in(alloc: Global, statements: &[Statement]) -> Result<List<List<Coeff>>, NoMemory>
     ensures { IfOk result (λ made. made ≡ betas_in statements.now) }
 {
@@ -47,7 +47,7 @@ pub fn dense_vectors(alloc: Global, scop: &Scop) -> Result<Betas, NoMemory>
     Betas::dense(alloc, &vectors)
 }
 
-/// Appends the leaf of a statement with the vector at place `k`.
+// Appends the leaf of a statement with the vector at place `k`.
 fn push_leaf(
     alloc: Global,
     betas: &Betas,
@@ -87,7 +87,7 @@ pub fn draft(alloc: Global, betas: &Betas, statements: &[Statement]) -> Result<V
     Ok(leaves)
 }
 
-/// The entries of a vector as betas.
+// The entries of a vector as betas.
 fn betas_from_vector(alloc: Global, vector: &[u32]) -> Result<List<Coeff>, NoMemory>
     ensures { IfOk result (λ made. made ≡ map (λ b. pos b) vector.now) }
 {
@@ -98,7 +98,7 @@ fn betas_from_vector(alloc: Global, vector: &[u32]) -> Result<List<Coeff>, NoMem
     Ok(made)
 }
 
-/// The statement of a leaf, with the leaf's vector and without extensions.
+// The statement of a leaf, with the leaf's vector and without extensions.
 fn closed(alloc: Global, leaf: &Leaf) -> Result<Statement, NoMemory>
     ensures { IfOk result (λ made. made ≡ closed_leaf leaf.now) }
 {
@@ -109,7 +109,7 @@ fn closed(alloc: Global, leaf: &Leaf) -> Result<Statement, NoMemory>
     Ok(statement)
 }
 
-/// The pieces of the statement of a leaf.
+// The pieces of the statement of a leaf.
 fn closed_pieces(alloc: Global, parameters: usize, leaf: &Leaf) -> Result<RawStatement, NoMemory>
     requires { IsSoundLeaf parameters leaf.now }
     ensures { IfOk result (λ made. made ≡ raw_of parameters leaf.now) }

@@ -14,7 +14,7 @@ use scop_core::{Affine, Floor, Schedule, Statement};
 use std::alloc::Global;
 use suite_base::{List, NoMemory};
 
-/// The form of the level at place `k`.
+// The form of the level at place `k`.
 fn form(levels: &List<Affine>, k: usize) -> &Affine
     requires { k < length levels.now }
     ensures { result.now ≡ form_at levels.now k }
@@ -98,7 +98,7 @@ pub fn reverse(alloc: Global, levels: &mut List<Affine>, k: usize) -> Result<(),
     Ok(())
 }
 
-/// The floors, each beside one more floor.
+// The floors, each beside one more floor.
 fn widened_floors(alloc: Global, floors: &[Floor]) -> Result<List<Floor>, NoMemory>
     ensures { IfOk result (λ made. made ≡ map widened_floor floors.now) }
 {
@@ -113,7 +113,7 @@ fn widened_floors(alloc: Global, floors: &[Floor]) -> Result<List<Floor>, NoMemo
     Ok(made)
 }
 
-/// The levels, each beside one more floor.
+// The levels, each beside one more floor.
 fn widened_levels(alloc: Global, levels: &[Affine]) -> Result<List<Affine>, NoMemory>
     ensures { IfOk result (λ made. made ≡ map widened levels.now) }
 {
@@ -124,7 +124,7 @@ fn widened_levels(alloc: Global, levels: &[Affine]) -> Result<List<Affine>, NoMe
     Ok(made)
 }
 
-/// Whether the rows of a floor of `form` by `size` are in range.
+// Whether the rows of a floor of `form` by `size` are in range.
 fn has_light_floor(form: &Affine, size: Coeff) -> bool
     requires { int_le (pos 1) size ≡ true }
     ensures { result ≡ nat_lt (floor_weight form.now size) (2 ^ 127) }
@@ -134,8 +134,8 @@ fn has_light_floor(form: &Affine, size: Coeff) -> bool
     constant + size - 1 < 1 << 127
 }
 
-/// The schedule with the level at place `k` in strips of `size`, and the level of the strips at place
-/// `t`.
+// The schedule with the level at place `k` in strips of `size`, and the level of the strips at place
+// `t`.
 fn strips(
     alloc: Global,
     schedule: &Schedule,

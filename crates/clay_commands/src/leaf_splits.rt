@@ -13,7 +13,7 @@ use row_core::Coeff;
 use std::alloc::Global;
 use suite_base::{List, NoMemory};
 
-/// Whether the vector of a leaf is `vector`.
+// Whether the vector of a leaf is `vector`.
 fn has_vector(leaf: &Leaf, vector: &[u32]) -> bool
     ensures { result ≡ same_vector leaf.now.beta vector.now }
 {
@@ -32,7 +32,7 @@ pub fn place(vector: &[u32], leaves: &[Leaf]) -> usize
     leaves.len()
 }
 
-/// Keeps of a leaf where the affine value is at least 0.
+// Keeps of a leaf where the affine value is at least 0.
 fn keep_half(
     alloc: Global,
     leaf: &mut Leaf,
@@ -46,7 +46,7 @@ fn keep_half(
     restrict(alloc, &mut leaf.statement, iterators, parameters, constant)
 }
 
-/// The leaf for where the affine value is below 0.
+// The leaf for where the affine value is below 0.
 fn new_half(
     alloc: Global,
     leaf: &Leaf,

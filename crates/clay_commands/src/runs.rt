@@ -13,7 +13,7 @@ use clay_script::Command;
 use std::alloc::Global;
 use suite_base::Fail;
 
-/// Reads the size of a cut, which is a coefficient.
+// Reads the size of a cut, which is a coefficient.
 fn read_size(command: &Command)
     ensures { SizesFit command.now }
 {
@@ -28,7 +28,7 @@ fn read_size(command: &Command)
     }
 }
 
-/// One command of a script, which leaves the draft sound.
+// One command of a script, which leaves the draft sound.
 fn sound_step(
     alloc: Global,
     parameters: usize,

@@ -18,7 +18,7 @@ use row_core::Coeff;
 use std::alloc::Global;
 use suite_base::{Fail, Refusal, Where};
 
-/// Whether a constant has room for one more.
+// Whether a constant has room for one more.
 fn is_light(constant: Coeff) -> bool
     ensures { result ≡ nat_lt (unsigned_abs constant + 1) (2 ^ 127) }
 {

@@ -13,7 +13,7 @@ use scop_core::Statement;
 use std::alloc::Global;
 use suite_base::NoMemory;
 
-/// Appends all of `coeffs`.
+// Appends all of `coeffs`.
 fn push_all(row: &mut DenseRow, coeffs: &[Coeff]) -> Result<(), NoMemory>
     ensures { OnOk result (row.new ≡ row.old ++ coeffs.now) }
 {
@@ -23,7 +23,7 @@ fn push_all(row: &mut DenseRow, coeffs: &[Coeff]) -> Result<(), NoMemory>
     Ok(())
 }
 
-/// Appends `n` zeros.
+// Appends `n` zeros.
 fn push_zeros(row: &mut DenseRow, n: usize) -> Result<(), NoMemory>
     ensures { OnOk result (row.new ≡ row.old ++ zeros n) }
 {
@@ -33,7 +33,7 @@ fn push_zeros(row: &mut DenseRow, n: usize) -> Result<(), NoMemory>
     Ok(())
 }
 
-/// The row of an affine value of iterators and parameters, in a part.
+// The row of an affine value of iterators and parameters, in a part.
 #[tactic(auto, using(std::proofs::Common::append_assoc))]
 fn condition_row(
     alloc: Global,
@@ -52,7 +52,7 @@ fn condition_row(
     Ok(row)
 }
 
-/// The part where the affine value is at least 0.
+// The part where the affine value is at least 0.
 fn restricted_part(
     alloc: Global,
     part: &Part,
@@ -70,7 +70,7 @@ fn restricted_part(
     Ok(made)
 }
 
-/// Appends a part to a relation.
+// Appends a part to a relation.
 fn push(relation: &mut Relation, part: Part) -> Result<(), NoMemory>
     ensures { OnOk result (relation.new ≡ relation.old ++ part ∷ []) }
 {
@@ -80,7 +80,7 @@ fn push(relation: &mut Relation, part: Part) -> Result<(), NoMemory>
     }
 }
 
-/// The parts where the affine value is at least 0.
+// The parts where the affine value is at least 0.
 fn restricted_domain(
     alloc: Global,
     domain: &Relation,
@@ -116,7 +116,7 @@ pub fn restrict(
     Ok(())
 }
 
-/// The negatives of coefficients.
+// The negatives of coefficients.
 fn negatives(alloc: Global, coeffs: &[Coeff]) -> Result<DenseRow, NoMemory>
     ensures { IfOk result (λ row. row ≡ map neg_ℤ coeffs.now) }
 {

@@ -21,7 +21,7 @@ use row_core::Coeff;
 use std::alloc::Global;
 use suite_base::{Fail, Refusal, Where};
 
-/// The failure of command number `i` by an edit of forms.
+// The failure of command number `i` by an edit of forms.
 fn edit_fail(i: u32, fail: EditFail) -> Fail
     ensures { result ≡ edit_fail_of i fail }
 {
@@ -95,7 +95,7 @@ pub fn strip_step(
     Ok(())
 }
 
-/// Fission, fuse or reorder of the vectors, as command number `i`.
+// Fission, fuse or reorder of the vectors, as command number `i`.
 fn edit_vectors(
     alloc: Global,
     i: u32,

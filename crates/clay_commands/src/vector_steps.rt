@@ -39,7 +39,7 @@ pub fn copied_vector(alloc: Global, vector: &[u32]) -> Result<List<u32>, NoMemor
     Ok(made)
 }
 
-/// Gives a leaf the vector at place `k`.
+// Gives a leaf the vector at place `k`.
 fn set_vector(alloc: Global, betas: &Betas, k: usize, leaf: &mut Leaf) -> Result<(), NoMemory>
     requires { k < length betas.now }
     ensures { OnOk result (leaf.new ≡ with_beta (get_or betas.now k []) leaf.old) }
@@ -88,7 +88,7 @@ pub fn fuse(i: u32, prefix: &[u32], betas: &mut Betas) -> Result<(), Fail>
     }
 }
 
-/// Reorder of the children of the prefix by an order of 32-bit numbers.
+// Reorder of the children of the prefix by an order of 32-bit numbers.
 fn reorder_by(i: u32, prefix: &[u32], order: &[u32], betas: &mut Betas) -> Result<(), Fail>
     ensures ok { OnOk result (reorder_answer prefix.now order.now betas.old ≡ Ok betas.new) }
     ensures cause { IfErr result (HasCause (refused i (reorder_answer prefix.now order.now betas.old))) }
