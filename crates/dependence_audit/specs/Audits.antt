@@ -1,5 +1,5 @@
 -- The audit of a SCoP's block of dependences: its counts, or the first entry that is not the defined one.
-use Rattle.std.specs.Prelude.{◌≡◌, ◌<◌, ℤ, pos, ℕ, ◌+◌, ◌^◌, nat_lt, Bool, true, false, if◌then◌else◌, List, [], ◌∷◌, length, bytes_eq, Option, Some, None, Result, Ok, Err}
+use Rattle.std.specs.Prelude.{◌≡◌, ℤ, pos, ℕ, ◌+◌, ◌^◌, nat_lt, Bool, true, false, if◌then◌else◌, List, [], ◌∷◌, length, bytes_eq, Option, Some, None, Result, Ok, Err}
 use Rattle.suite_base.specs.declared.refusals.Fail.{Fail}
 use Rattle.suite_base.specs.declared.refusals.Fail.TheVariants as fail
 use Rattle.suite_base.specs.declared.refusals.Refusal.{Refusal}
@@ -92,11 +92,6 @@ audited S = counted (verdicts_in S)
 abbrev pub IsCause : Result Counts Refusal → Fail → Type 0
 IsCause answer fail.Memory = Unit {0}
 IsCause answer (fail.Refused refusal) = answer ≡ Err refusal
-
--- a failure of the list of systems: want of memory, or there are too many of them
-abbrev pub IsTooMany : ScopData → Fail → Type 0
-IsTooMany S fail.Memory = Unit {0}
-IsTooMany S (fail.Refused refusal) = (refusal ≡ Limit Systems 0) × (max_systems < length (entries (own_sides S)))
 
 -- whether the verdict is that the entry is kept
 abbrev pub is_kept : Option (List ℤ) → Bool

@@ -4,6 +4,7 @@ ghost use Rattle.std.specs.Prelude.{◌≡◌, ◌≤◌, length, Ok, Some, None
 ghost use Rattle.suite_base.specs.Limits.{max_systems};
 ghost use Rattle.scop_core.specs.Sequences.{In};
 ghost use Rattle.dependence_systems.specs.Sides.{own_sides};
+ghost use Rattle.dependence_systems.specs.Originals.{own_originals};
 ghost use Rattle.dependence_systems.specs.Entries.{entries};
 ghost use Rattle.dependence_blocks.specs.Blocks.{block_name};
 ghost use Rattle.dependence_audit.specs.Contents.{contents};
@@ -12,10 +13,10 @@ ghost use Rattle.dependence_audit.specs.Audits as spec;
 use crate::comparing::count_is;
 use crate::content_lines::ContentLines;
 use crate::readings::{Finding, read_entry};
-use crate::systems::{own_entries, own_system};
 use dependence_systems::Dep;
+use dependence_systems::own_systems::{own_entries, own_pieces, own_system};
 use row_core::RowFail;
-use scop_core::{Extension, Scop};
+use scop_core::{Extension, Pieces, Scop};
 use std::alloc::Global;
 use suite_base::{Fail, List, Refusal, Text, Where};
 
@@ -40,10 +41,11 @@ pub fn audit(alloc: Global, scop: &Scop) -> Result<Counts, Fail>
     ensures counts { IfOk result (λ counts. spec.audited scop.now ≡ Ok counts) }
     ensures cause { IfErr result (spec.IsCause (spec.audited scop.now)) }
 {
-    let list = own_entries(alloc, scop)?;
+    let pieces = own_pieces(alloc, scop)?;
+    let list = own_entries(alloc, scop, &pieces)?;
     match first_block(scop.extensions().as_slice()) {
         None => Err(Fail::Refused(Refusal::BadCertificate(0))),
-        Some(lines) => audit_block(alloc, scop, &list, lines),
+        Some(lines) => audit_block(alloc, scop, &pieces, &list, lines),
     }
 }
 
@@ -67,7 +69,14 @@ fn is_block_name(name: &[u8]) -> bool
 }
 
 // Audits the lines of a block.
-fn audit_block(alloc: Global, scop: &Scop, list: &List<Dep>, lines: &[Text]) -> Result<Counts, Fail>
+fn audit_block(
+    alloc: Global,
+    scop: &Scop,
+    pieces: &Pieces,
+    list: &List<Dep>,
+    lines: &[Text],
+) -> Result<Counts, Fail>
+    requires own { pieces.now ≡ own_originals scop.now }
     requires list { list.now ≡ entries (own_sides scop.now) }
     requires few { length list.now ≤ max_systems }
     ensures counts { IfOk result (λ counts. spec.counted (spec.read_block scop.now.context (own_sides scop.now) list.now (contents lines.now)) ≡ Ok counts) }
@@ -75,7 +84,7 @@ fn audit_block(alloc: Global, scop: &Scop, list: &List<Dep>, lines: &[Text]) -> 
 {
     let mut left = ContentLines::new(lines);
     if takes_count(list.len(), &mut left) {
-        audit_entries(alloc, scop, list.as_slice(), &mut left)
+        audit_entries(alloc, scop, pieces, list.as_slice(), &mut left)
     } else {
         Err(Fail::Refused(Refusal::BadCertificate(0)))
     }
@@ -95,9 +104,11 @@ fn takes_count(count: usize, lines: &mut ContentLines<'_>) -> bool
 fn audit_entries(
     alloc: Global,
     scop: &Scop,
+    pieces: &Pieces,
     list: &[Dep],
     lines: &mut ContentLines<'_>,
 ) -> Result<Counts, Fail>
+    requires own { pieces.now ≡ own_originals scop.now }
     requires list { list.now ≡ entries (own_sides scop.now) }
     requires few { length list.now ≤ max_systems }
     ensures counts { IfOk result (λ counts. spec.counted (spec.read_entries scop.now.context (own_sides scop.now) 1 list.now lines.old) ≡ Ok counts) }
@@ -105,7 +116,7 @@ fn audit_entries(
 {
     let mut kept: u32 = 0;
     for k in 0..list.len() {
-        if audit_entry(alloc, scop, &list[k], k as u32 + 1, lines)? {
+        if audit_entry(alloc, scop, pieces, &list[k], k as u32 + 1, lines)? {
             kept += 1;
         }
     }
@@ -124,15 +135,17 @@ fn audit_entries(
 fn audit_entry(
     alloc: Global,
     scop: &Scop,
+    pieces: &Pieces,
     entry: &Dep,
     number: u32,
     lines: &mut ContentLines<'_>,
 ) -> Result<bool, Fail>
+    requires own { pieces.now ≡ own_originals scop.now }
     requires listed { In entry.now (entries (own_sides scop.now)) }
     ensures stands { IfOk result (spec.EntryStands scop.now.context (own_sides scop.now) number entry.now lines.old lines.new) }
     ensures stops { IfErr result (spec.EntryStops scop.now.context (own_sides scop.now) number entry.now lines.old) }
 {
-    match own_system(alloc, scop, entry) {
+    match own_system(alloc, scop, pieces, entry) {
         Err(RowFail::Memory) => Err(Fail::Memory),
         Err(RowFail::Overflow) => Err(Fail::Refused(Refusal::Overflow(Where::System, number))),
         Ok(system) => match read_entry(alloc, entry, &system, lines)? {

@@ -7,6 +7,5 @@ mod comparing;
 mod content_lines;
 pub mod laws;
 mod readings;
-mod systems;
 
 pub use audits::{Counts, audit};
