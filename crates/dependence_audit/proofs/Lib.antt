@@ -1,6 +1,7 @@
 mod Checks
 pub mod Certified
 pub mod Compared
+pub mod Defined
 pub mod EntryReadings
 pub mod Printed
 pub mod PrintedLines

@@ -30,10 +30,10 @@ use Rattle.dependence_audit.proofs.EntryReadings.{reads_kept, reads_dropped, lig
 use Rattle.dependence_audit.proofs.PrintedLines.{numbers_line, numbers_said, says_numbers, reads_numbers, row_line_is, header_line_is, row_coefficients, header_coefficients, count_coefficient, head_said, head_kept_in, head_words, same_own, other_verdict}
 
 -- the choice that a test makes
-chosen : {A : Type 0} (b : Bool) (x y : A) → b ≡ true → (if b then x else y) ≡ x
+pub chosen : {A : Type 0} (b : Bool) (x y : A) → b ≡ true → (if b then x else y) ≡ x
 chosen b x y e = ap (λ t. if t then x else y) e
 
-refused : {A : Type 0} (b : Bool) (x y : A) → b ≡ false → (if b then x else y) ≡ y
+pub refused : {A : Type 0} (b : Bool) (x y : A) → b ≡ false → (if b then x else y) ≡ y
 refused b x y e = ap (λ t. if t then x else y) e
 
 -- ---- a kept entry

@@ -1,5 +1,6 @@
 //! The laws of the audit: functions that do nothing, and whose contracts are the laws.
 
+ghost use Rattle.dependence_audit.specs.Defined.{AuditIsExact};
 ghost use Rattle.dependence_audit.specs.Theorems.{AuditedBlocksAreSound, PrintedBlocksPass};
 
 /// Where a block passes with some counts, it states so many verdicts, one for each system of the SCoP; no dropped
@@ -14,4 +15,10 @@ pub fn audited_blocks_are_sound()
 /// certificate that is not too heavy to check.
 pub fn printed_blocks_pass()
     ensures { PrintedBlocksPass }
+{}
+
+/// The audit states verdicts exactly where the SCoP has at most 65,536 systems, and its first global block has the
+/// number of systems, then the defined entries in order with these verdicts, then nothing.
+pub fn audit_is_exact()
+    ensures { AuditIsExact }
 {}
