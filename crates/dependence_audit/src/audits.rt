@@ -13,8 +13,7 @@ ghost use Rattle.dependence_audit.specs.Audits as spec;
 use crate::comparing::count_is;
 use crate::content_lines::ContentLines;
 use crate::readings::{Finding, read_entry};
-use dependence_systems::Dep;
-use dependence_systems::own_systems::{own_entries, own_pieces, own_system};
+use dependence_systems::{Dep, own_deps, own_pieces, own_system};
 use row_core::RowFail;
 use scop_core::{Extension, Pieces, Scop};
 use std::alloc::Global;
@@ -42,7 +41,7 @@ pub fn audit(alloc: Global, scop: &Scop) -> Result<Counts, Fail>
     ensures cause { IfErr result (spec.IsCause (spec.audited scop.now)) }
 {
     let pieces = own_pieces(alloc, scop)?;
-    let list = own_entries(alloc, scop, &pieces)?;
+    let list = own_deps(alloc, scop, &pieces)?;
     match first_block(scop.extensions().as_slice()) {
         None => Err(Fail::Refused(Refusal::BadCertificate(0))),
         Some(lines) => audit_block(alloc, scop, &pieces, &list, lines),
