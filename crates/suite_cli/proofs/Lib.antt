@@ -5,6 +5,7 @@ pub mod WordLists
 pub mod ShortNumbers
 pub mod Printables
 pub mod Assembled
+pub mod AuditLengths
 pub mod ScopTexts
 pub mod FileLists
 pub mod RunAnswers

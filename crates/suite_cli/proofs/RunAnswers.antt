@@ -14,6 +14,9 @@ use Rattle.scop_reader.proofs.GrammarProper.{stands_for_one_law}
 use Rattle.scop_reader.proofs.GrammarReadBack.{layout_reads_back_law}
 use Rattle.dependence_systems.specs.Sides.{own_sides}
 use Rattle.dependence_systems.specs.Entries.{entries}
+use Rattle.dependence_audit.specs.declared.audits.Counts.{Counts}
+use Rattle.dependence_audit.specs.Audits.{audited}
+use Rattle.dependence_audit.proofs.Sound.{blocks_are_sound}
 use Rattle.candl_deps.specs.Decisions.{IsDecidable, IsRefusal, WithDependences}
 use Rattle.candl_deps.proofs.Kept.{right_is_sound}
 use Rattle.dependence_blocks.proofs.Kept.{kept_hold_conflicts}
@@ -22,16 +25,18 @@ use Rattle.clan_extract.proofs.OneLoops.{one_loop_means, one_loop_names}
 use Rattle.suite_cli.specs.declared.outcomes.Outcome.{Outcome}
 use Rattle.suite_cli.specs.declared.outcomes.Outcome.TheVariants.{Done, Refused, Usage, ReadFault, WriteFault, Memory}
 use Rattle.suite_cli.specs.Answers.{Answers, CommandAnswers, Completes, IsRefused, ReadingAnswers, RefusalCause, Reported}
+use Rattle.suite_cli.specs.AuditPromise as audit
 use Rattle.suite_cli.specs.CandlPromise as candl
 use Rattle.suite_cli.specs.ClanPromise as clan
 use Rattle.suite_cli.specs.ClanPromise.{IsLoopText, scop_of}
-use Rattle.suite_cli.specs.Commands.{Command, Candl, Clan, Scop, Words, files_of}
+use Rattle.suite_cli.specs.Commands.{Command, Audit, Candl, Clan, Scop, Words, files_of}
 use Rattle.suite_cli.specs.FirstForm.{AreWords, IsFirstForm, IsHead, IsAssignment, LoopWords, content_lines, frame_of, loop_of}
 use Rattle.suite_cli.specs.Messages.{message}
 use Rattle.suite_cli.specs.Promises.{OfOne, Refuses, StopCause, Takes}
 use Rattle.suite_cli.specs.Reads.{AreRead, AreReadable, FaultCause, HasReadFault, Holds, IsLong, IsReadFaulty, IsReadable, IsTooLong, Named, StopsAt, Tells}
 use Rattle.suite_cli.specs.ScopPromise as scop
 use Rattle.suite_cli.specs.Worlds.{Inputs, IsUnwritten, IsWriteFaulty, Output, World}
+use Rattle.suite_cli.proofs.AuditLengths.{audit_says_no_length}
 use Rattle.suite_cli.proofs.ScopTexts.{text_has_no_fault}
 use Rattle.suite_cli.proofs.WordLists.{one_command}
 
@@ -83,6 +88,18 @@ depends text output S made t valid kept with_block e =
       stands = stands output made kept e;
       conflicts = kept_hold_conflicts S valid b.verdicts sound;
     }
+
+-- the line of a block that passes
+pub audits : (text output : List ℕ) (S : ScopData) (counts : Counts) → IsScopText text S → IsValid S → audited S ≡ Ok counts → output ≡ audit.counts_line counts
+    → audit.Makes text output
+audits text output S counts t valid passes e = record {
+  scop = S;
+  read = t;
+  counts = counts;
+  passes = passes;
+  says = blocks_are_sound S valid counts passes;
+  line = e;
+}
 
 -- ---- what is told
 
@@ -167,6 +184,13 @@ no_candl_refusal text S refusal t d (inr h) =
     let same : h.0 ≡ S = stands_for_one_law text h.0 S h.1 t in
     decidable_is_not_refused S refusal d (subst (λ (T : ScopData). IsRefusal T.context (own_sides T) (entries (own_sides T)) refusal) same h.2)
 
+no_audit_refusal : (text : List ℕ) (S : ScopData) (counts : Counts) (refusal : Refusal) → IsScopText text S → audited S ≡ Ok counts → ¬ audit.Refuses text refusal
+no_audit_refusal text S counts refusal t passes (inl h) = no_scop_refusal text S refusal t h
+no_audit_refusal text S counts refusal t passes (inr h) =
+    let same : h.0 ≡ S = stands_for_one_law text h.0 S h.1 t in
+    let refused : audited S ≡ Err refusal = subst (λ (T : ScopData). audited T ≡ Err refusal) same h.2 in
+    absurd (cc)
+
 -- what one text excludes, a list of one does
 one_excludes : (P Q : List ℕ → Type 0) → ((text : List ℕ) → P text → ¬ Q text) → (texts : List (List ℕ)) → OfOne P texts → ¬ OfOne Q texts
 one_excludes P Q none [] p q = p
@@ -178,6 +202,7 @@ not_refused : (command : Command) (texts : List (List ℕ)) (place : ℕ) (refus
 not_refused (Clan file) texts place refusal t h = one_excludes clan.Takes (λ text. clan.Refuses text refusal) (λ text p. no_loop_refusal text p.0 refusal p.1) texts t h.1
 not_refused (Scop file) texts place refusal t h = one_excludes scop.Takes (λ text. scop.Refuses text refusal) (λ text p. no_scop_refusal text p.0 refusal p.1) texts t h.1
 not_refused (Candl file) texts place refusal t h = one_excludes candl.Takes (λ text. candl.Refuses text refusal) (λ text p. no_candl_refusal text p.0 refusal p.1 p.2) texts t h.1
+not_refused (Audit file) texts place refusal t h = one_excludes audit.Takes (λ text. audit.Refuses text refusal) (λ text p. no_audit_refusal text p.0 p.1 refusal p.2 p.3) texts t h.1
 
 -- what no text has, no list of one has
 none_of_one : (P : List ℕ → Type 0) → ((text : List ℕ) → ¬ P text) → (texts : List (List ℕ)) → ¬ OfOne P texts
@@ -189,11 +214,16 @@ candl_not_too_long : (text : List ℕ) → ¬ candl.Refuses text TooLong
 candl_not_too_long text (inl h) = fault_is_not_too_long_law text h
 candl_not_too_long text (inr h) = h.2
 
+audit_not_too_long : (text : List ℕ) → ¬ audit.Refuses text TooLong
+audit_not_too_long text (inl h) = fault_is_not_too_long_law text h
+audit_not_too_long text (inr h) = audit_says_no_length h.0 h.2
+
 -- no command refuses a text as too long
 never_long : (command : Command) (texts : List (List ℕ)) (place : ℕ) → ¬ Refuses command texts place TooLong
 never_long (Clan file) texts place h = none_of_one (λ text. clan.Refuses text TooLong) (λ text r. r) texts h.1
 never_long (Scop file) texts place h = none_of_one (λ text. scop.Refuses text TooLong) fault_is_not_too_long_law texts h.1
 never_long (Candl file) texts place h = none_of_one (λ text. candl.Refuses text TooLong) candl_not_too_long texts h.1
+never_long (Audit file) texts place h = none_of_one (λ text. audit.Refuses text TooLong) audit_not_too_long texts h.1
 
 cause_unless_long : (command : Command) (before now : Inputs) (place : ℕ) (refusal : Refusal) → ¬ (refusal ≡ TooLong) → IsRefused command before now place refusal → RefusalCause command before now place refusal
 cause_unless_long command before now place TooLong other h = absurd (other refl)

@@ -10,24 +10,28 @@ pub data Command : Type 0 where
   Clan : (file : List ℕ) → Command
   Scop : (file : List ℕ) → Command
   Candl : (file : List ℕ) → Command
+  Audit : (file : List ℕ) → Command
 
 -- the command that a work is
 abbrev pub command_of : Work → Command
 command_of (work.Clan file) = Clan file.now
 command_of (work.Scop file) = Scop file.now
 command_of (work.Candl file) = Candl file.now
+command_of (work.Audit file) = Audit file.now
 
 -- the words of the files that a command reads, in their order
 abbrev pub files_of : Command → List (List ℕ)
 files_of (Clan file) = file ∷ []
 files_of (Scop file) = file ∷ []
 files_of (Candl file) = file ∷ []
+files_of (Audit file) = file ∷ []
 
 -- the words of a command
 abbrev pub words_of : Command → List (List ℕ)
 words_of (Clan file) = codes "clan" ∷ (file ∷ [])
 words_of (Scop file) = codes "scop" ∷ (file ∷ [])
 words_of (Candl file) = codes "candl" ∷ (file ∷ [])
+words_of (Audit file) = codes "audit" ∷ (file ∷ [])
 
 -- the word for standard input
 abbrev pub is_input : List ℕ → Bool

@@ -5,6 +5,7 @@ pub mod Names
 pub mod Pieces
 pub mod Worlds
 pub mod Reads
+pub mod AuditPromise
 pub mod CandlPromise
 pub mod ClanPromise
 pub mod ScopPromise

@@ -5,8 +5,9 @@ use Rattle.suite_base.specs.declared.refusals.Fail.TheVariants as fail
 use Rattle.suite_base.specs.declared.refusals.Refusal.{Refusal}
 use Rattle.suite_cli.specs.declared.outcomes.Outcome.{Outcome}
 use Rattle.suite_cli.specs.declared.outcomes.Outcome.TheVariants.{Memory, Refused}
+use Rattle.suite_cli.specs.AuditPromise as audit
 use Rattle.suite_cli.specs.CandlPromise as candl
-use Rattle.suite_cli.specs.Commands.{Command, Candl, Clan, Scop}
+use Rattle.suite_cli.specs.Commands.{Command, Audit, Candl, Clan, Scop}
 use Rattle.suite_cli.specs.ClanPromise as clan
 use Rattle.suite_cli.specs.ScopPromise as scop
 
@@ -20,18 +21,21 @@ abbrev pub Makes : Command → List (List ℕ) → List ℕ → Type 0
 Makes (Clan file) texts output = OfOne (λ text. clan.Makes text output) texts
 Makes (Scop file) texts output = OfOne (λ text. scop.Makes text output) texts
 Makes (Candl file) texts output = OfOne (λ text. candl.Makes text output) texts
+Makes (Audit file) texts output = OfOne (λ text. audit.Makes text output) texts
 
 -- the command takes these texts
 abbrev pub Takes : Command → List (List ℕ) → Type 0
 Takes (Clan file) texts = OfOne clan.Takes texts
 Takes (Scop file) texts = OfOne scop.Takes texts
 Takes (Candl file) texts = OfOne candl.Takes texts
+Takes (Audit file) texts = OfOne audit.Takes texts
 
 -- the command refuses these texts so; the refusal speaks of the file at this place, from 1, or of none at 0
 abbrev pub Refuses : Command → List (List ℕ) → ℕ → Refusal → Type 0
 Refuses (Clan file) texts place refusal = (place ≡ 1) × OfOne (λ text. clan.Refuses text refusal) texts
 Refuses (Scop file) texts place refusal = (place ≡ 1) × OfOne (λ text. scop.Refuses text refusal) texts
 Refuses (Candl file) texts place refusal = (place ≡ 1) × OfOne (λ text. candl.Refuses text refusal) texts
+Refuses (Audit file) texts place refusal = (place ≡ 1) × OfOne (λ text. audit.Refuses text refusal) texts
 
 -- where a failure is a refusal, P holds of it
 abbrev pub FailCause : (Refusal → Type 0) → Fail → Type 0

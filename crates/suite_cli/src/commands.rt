@@ -15,6 +15,8 @@ pub enum Work<'a> {
     Scop(&'a str),
     /// Prints the SCoP of a file with the block of its dependences.
     Candl(&'a str),
+    /// Compares the block of dependences of a file's SCoP with the systems that the SCoP defines.
+    Audit(&'a str),
 }
 
 impl<'a> Work<'a> {
@@ -29,6 +31,7 @@ impl<'a> Work<'a> {
             Work::Clan(file) => one_file(file, k),
             Work::Scop(file) => one_file(file, k),
             Work::Candl(file) => one_file(file, k),
+            Work::Audit(file) => one_file(file, k),
         }
     }
 }
@@ -86,6 +89,8 @@ fn named_work<'a>(command: &str, file: &'a str) -> Option<Work<'a>>
         Some(Work::Scop(file))
     } else if command == "candl" {
         Some(Work::Candl(file))
+    } else if command == "audit" {
+        Some(Work::Audit(file))
     } else {
         None
     }

@@ -3,6 +3,7 @@
 ghost use Rattle.std.specs.Prelude.{◌≡◌, ◌≤◌, All, IfOk, IfErr, [], ◌∷◌, length, true, false};
 ghost use Rattle.suite_base.specs.Limits.{max_input};
 ghost use Rattle.suite_cli.specs.Answers as spec;
+ghost use Rattle.suite_cli.specs.AuditPromise as audit_promise;
 ghost use Rattle.suite_cli.specs.CandlPromise as candl;
 ghost use Rattle.suite_cli.specs.ClanPromise as clan;
 ghost use Rattle.suite_cli.specs.Commands as command;
@@ -16,10 +17,11 @@ use crate::outcomes::Outcome;
 use crate::readings::read_files;
 use crate::translations::translation;
 use candl_deps::with_dependences;
+use dependence_audit::{Counts, audit};
 use scop_reader::read_scop;
 use scop_writer::print_scop;
 use std::alloc::Global;
-use suite_base::{Fail, Files, Sink, Source, Text, WordList, write_all};
+use suite_base::{Fail, Files, NoMemory, Sink, Source, Text, WordList, write_all};
 
 /// Does the work that the words ask for: reads its files, builds the whole output, and writes it.
 pub fn run<F: Files, I: Source, O: Sink>(
@@ -83,6 +85,7 @@ fn output_of(alloc: Global, work: &Work<'_>, texts: &[Text]) -> Result<Text, Out
         Work::Clan(_) => made_of(1, translated(alloc, only(texts))),
         Work::Scop(_) => made_of(1, printed(alloc, only(texts))),
         Work::Candl(_) => made_of(1, with_block(alloc, only(texts))),
+        Work::Audit(_) => made_of(1, audited(alloc, only(texts))),
     }
 }
 
@@ -156,4 +159,39 @@ fn with_block(alloc: Global, bytes: &[u8]) -> Result<Text, Fail>
             },
         },
     }
+}
+
+/// The line of the counts of a text's block of dependences.
+fn audited(alloc: Global, bytes: &[u8]) -> Result<Text, Fail>
+    requires short { length bytes.now ≤ max_input }
+    ensures ok { IfOk result (λ output. audit_promise.Makes bytes.now output) }
+    ensures err { IfErr result (promise.FailCause (audit_promise.Refuses bytes.now)) }
+{
+    match read_scop(alloc, bytes) {
+        Err(Fail::Memory) => Err(Fail::Memory),
+        Err(Fail::Refused(refusal)) => Err(Fail::Refused(refusal)),
+        Ok(scop) => match audit(alloc, &scop) {
+            Err(Fail::Memory) => Err(Fail::Memory),
+            Err(Fail::Refused(refusal)) => Err(Fail::Refused(refusal)),
+            Ok(counts) => match counts_line(alloc, &counts) {
+                Err(_) => Err(Fail::Memory),
+                Ok(output) => Ok(output),
+            },
+        },
+    }
+}
+
+/// The line of these counts.
+fn counts_line(alloc: Global, counts: &Counts) -> Result<Text, NoMemory>
+    ensures { IfOk result (λ line. line ≡ audit_promise.counts_line counts.now) }
+{
+    let mut line = Text::new(alloc);
+    line.push_bytes(b"systems ")?;
+    line.push_number(counts.systems as i128)?;
+    line.push_bytes(b" kept ")?;
+    line.push_number(counts.kept as i128)?;
+    line.push_bytes(b" dropped ")?;
+    line.push_number(counts.dropped as i128)?;
+    line.push(b'\n')?;
+    Ok(line)
 }
