@@ -1,3 +1,6 @@
 mod Checks
 pub mod Ends
 pub mod Factors
+pub mod Plains
+pub mod Reverses
+pub mod Interchanges

@@ -2,4 +2,5 @@
 pub mod Triangles
 pub mod Recoverable
 pub mod LevelScripts
+pub mod Runs
 pub mod Laws
