@@ -1,0 +1,9 @@
+pub mod Rows
+pub mod Lists
+pub mod Levels
+pub mod Pieces
+pub mod Domains
+pub mod Comes
+pub mod Once
+pub mod Scripts
+pub mod Instances
