@@ -1,15 +1,21 @@
 -- What is said of lists of violations, joined.
-use Rattle.std.proofs.Common.{◌≡◌, ◌⊎◌, inl, inr, ℕ, zero, suc, ◌+◌, ◌^◌, ◌<◌, ◌≤◌, List, [], ◌∷◌, ◌++◌, map, length, Result, Ok, Err, refl, ap, sym, ◌∙◌, subst, arith, append_assoc}
+use Rattle.std.proofs.Common.{◌≡◌, ◌⊎◌, inl, inr, ℕ, zero, suc, ◌+◌, ◌^◌, ◌<◌, ◌≤◌, List, [], ◌∷◌, ◌++◌, map, length, drop, slice_index_or, Result, Ok, Err, refl, ap, sym, ◌∙◌, subst, arith, append_assoc}
 use Rattle.std.specs.List.{flat_map, range_with_len}
 use Rattle.std.proofs.lemmas.List.{length-append}
 use Rattle.suite_base.specs.declared.refusals.Fail.{Fail}
 use Rattle.suite_base.specs.declared.refusals.Fail.TheVariants as fail
 use Rattle.suite_base.specs.declared.refusals.Refusal.{Refusal}
 use Rattle.suite_base.specs.declared.refusals.Refusal.TheVariants.{Overflow, TooManyRows}
+use Rattle.suite_base.specs.declared.refusals.Where.TheVariants.{System as OfSystem}
+use Rattle.dependence_systems.specs.Systems.{system_weight}
 use Rattle.suite_base.specs.Limits.{max_systems, max_stage_rows}
 use Rattle.legality.specs.declared.legal.Legal.{Legal}
 use Rattle.legality.specs.declared.legal.Legal.TheVariants.{Yes, Illegal}
-use Rattle.legality.specs.Violations.{Edit, Violation, dependences, violations, violation_peak}
+use Rattle.scop_core.specs.Sequences.{In}
+use Rattle.scop_core.specs.LevelOrder.{IsLevel}
+use Rattle.scop_core.proofs.LevelOrder.{levels_are_listed}
+use Rattle.dependence_systems.specs.declared.deps.Dep.{Dep}
+use Rattle.legality.specs.Violations.{Edit, Violation, dependences, new_schedule, new_levels, violations_of, violations, shared_pairing, violation_peak}
 use Rattle.legality.specs.Answers.{IsLight, IsReal, IsNone, AreNone, StopsAt, StopsHere, IsEnd, IsSaid, IsAnswer}
 
 -- the numbers from 1 to one more
@@ -98,3 +104,68 @@ answered E (Err (fail.Refused r)) few h = elim (stopped E 1 (violations E) (Err 
   | inl s ↦ absurd s.stops
   | inr e ↦ absurd e
 ]
+
+-- from place i on
+drop_at : (xs : List ℕ) (i : ℕ) → i < length xs → drop i xs ≡ slice_index_or xs i 0 ∷ drop (i + 1) xs
+drop_at [] i h = absurd (omega arith)
+drop_at (x ∷ xs) zero h = refl
+drop_at (x ∷ xs) (suc i) h =
+    let next : suc i + 1 ≡ suc (i + 1) = omega arith in
+    drop_at xs i (omega arith) ∙ ap (λ k. slice_index_or xs i 0 ∷ drop k (x ∷ xs)) (sym next)
+
+at_in : (xs : List ℕ) (i : ℕ) → i < length xs → In (slice_index_or xs i 0) xs
+at_in [] i h = absurd (omega arith)
+at_in (x ∷ xs) zero h = inl refl
+at_in (x ∷ xs) (suc i) h = inr (at_in xs i (omega arith))
+
+pub level_at : (E : Edit) (e : Dep) (levels : List ℕ) (i : ℕ) → levels ≡ new_levels E e → i < length levels
+    → IsLevel (new_schedule E e.target).betas (new_schedule E e.source).betas (slice_index_or levels i 0)
+level_at E e levels i is h =
+    (levels_are_listed (new_schedule E e.target).betas (new_schedule E e.source).betas (slice_index_or levels i 0)).0
+    (subst (λ list. In (slice_index_or levels i 0) list) is (at_in levels i h))
+
+-- the violations of a dependence at these levels
+abbrev pub at_levels : Dep → List ℕ → List Violation
+at_levels e levels = map (λ level. record { entry = e; level = level }) levels
+
+-- what is said from place i on, where `number` violations are before it, is said of all
+abbrev pub GoesOn : Edit → Dep → ℕ → ℕ → List ℕ → ℕ → Type 0
+GoesOn E e before number levels i =
+    (answer : Result Legal Fail) → IsSaid E (number + 1) (at_levels e (drop i levels)) answer → IsSaid E (before + 1) (at_levels e levels) answer
+
+next_said : (E : Edit) (e : Dep) (number : ℕ) (levels : List ℕ) (i : ℕ) (answer : Result Legal Fail) → i < length levels
+    → StopsHere E (number + 1) (record { entry = e; level = slice_index_or levels i 0 }) answer
+    ⊎ (IsNone E (record { entry = e; level = slice_index_or levels i 0 }) × IsSaid E (number + 1 + 1) (at_levels e (drop (i + 1) levels)) answer)
+    → IsSaid E (number + 1) (at_levels e (drop i levels)) answer
+next_said E e number levels i answer h said = subst (λ list. IsSaid E (number + 1) (at_levels e list) answer) (sym (drop_at levels i h)) said
+
+pub stops_said : (E : Edit) (e : Dep) (before number next : ℕ) (levels : List ℕ) (i : ℕ) (answer : Result Legal Fail) → GoesOn E e before number levels i → i < length levels
+    → next ≡ number + 1 → StopsHere E next (record { entry = e; level = slice_index_or levels i 0 }) answer → IsSaid E (before + 1) (at_levels e levels) answer
+stops_said E e before number next levels i answer go h n stops =
+    go answer (next_said E e number levels i answer h (inl (subst (λ k. StopsHere E k (record { entry = e; level = slice_index_or levels i 0 }) answer) n stops)))
+
+pub goes_on : (E : Edit) (e : Dep) (before number next : ℕ) (levels : List ℕ) (i : ℕ) → GoesOn E e before number levels i → i < length levels
+    → next ≡ number + 1 → IsNone E (record { entry = e; level = slice_index_or levels i 0 }) → GoesOn E e before next levels (i + 1)
+goes_on E e before number next levels i go h n none answer said =
+    go answer (next_said E e number levels i answer h (inr (none, subst (λ k. IsSaid E (k + 1) (at_levels e (drop (i + 1) levels)) answer) n said)))
+
+pub memory_any : (E : Edit) (k : ℕ) (list : List Violation) (answer : Result Legal Fail) → answer ≡ Err fail.Memory → IsSaid E k list answer
+memory_any E k list answer e = subst (λ a. IsSaid E k list a) (sym e) (memory_said E k list)
+
+drop_all : {X : Type 0} (xs : List X) (i : ℕ) → length xs ≤ i → drop i xs ≡ []
+drop_all [] zero h = refl
+drop_all [] (suc i) h = refl
+drop_all (x ∷ xs) zero h = absurd (omega arith)
+drop_all (x ∷ xs) (suc i) h = drop_all xs i (omega arith)
+
+pub ends_said : (E : Edit) (e : Dep) (before number : ℕ) (levels : List ℕ) (i : ℕ) → GoesOn E e before number levels i → length levels ≤ i → IsSaid E (before + 1) (at_levels e levels) (Ok Yes)
+ends_said E e before number levels i go h = go (Ok Yes) (subst (λ list. IsSaid E (number + 1) (at_levels e list) (Ok Yes)) (sym (drop_all levels i h)) tt)
+
+-- where the rows that the violations of a dependence share pass the weight, the first one is refused
+pub first_heavy : (E : Edit) (e : Dep) (levels : List ℕ) (before first : ℕ) → levels ≡ new_levels E e → 0 < length levels → first ≡ before + 1
+    → 2 ^ 127 ≤ system_weight (shared_pairing E e) e.level → IsSaid E (before + 1) (violations_of E e) (Err (fail.Refused (Overflow OfSystem first)))
+first_heavy E e [] before first is h n heavy = absurd (omega arith)
+first_heavy E e (l ∷ levels) before first is h n heavy =
+    let v : Violation = record { entry = e; level = l } in
+    let most : 2 ^ 127 ≤ (violation_peak E v).weight = grind (arith, heavy) in
+    subst (λ list. IsSaid E (before + 1) (at_levels e list) (Err (fail.Refused (Overflow OfSystem first)))) is (inl (refl, n, most))
