@@ -1,7 +1,8 @@
 -- What is said of lists of violations, joined.
 use Rattle.std.proofs.Common.{◌≡◌, ◌⊎◌, inl, inr, ℕ, zero, suc, ◌+◌, ◌^◌, ◌<◌, ◌≤◌, List, [], ◌∷◌, ◌++◌, map, length, drop, slice_index_or, Result, Ok, Err, refl, ap, sym, ◌∙◌, subst, arith, append_assoc}
 use Rattle.std.specs.List.{flat_map, range_with_len}
-use Rattle.std.proofs.lemmas.List.{length-append}
+use Rattle.std.proofs.lemmas.List.{length-append, length-map}
+use Rattle.std.proofs.lemmas.List.Concat.{flat_map-cons}
 use Rattle.suite_base.specs.declared.refusals.Fail.{Fail}
 use Rattle.suite_base.specs.declared.refusals.Fail.TheVariants as fail
 use Rattle.suite_base.specs.declared.refusals.Refusal.{Refusal}
@@ -14,7 +15,7 @@ use Rattle.legality.specs.declared.legal.Legal.TheVariants.{Yes, Illegal}
 use Rattle.scop_core.specs.Sequences.{In}
 use Rattle.scop_core.specs.LevelOrder.{IsLevel}
 use Rattle.scop_core.proofs.LevelOrder.{levels_are_listed}
-use Rattle.dependence_systems.specs.declared.deps.Dep.{Dep}
+use Rattle.dependence_systems.specs.declared.dependences.Dep.{Dep}
 use Rattle.legality.specs.Violations.{Edit, Violation, dependences, new_schedule, new_levels, violations_of, violations, shared_pairing, violation_peak}
 use Rattle.legality.specs.Answers.{IsLight, IsReal, IsNone, AreNone, StopsAt, StopsHere, IsEnd, IsSaid, IsAnswer}
 
@@ -169,3 +170,51 @@ first_heavy E e (l ∷ levels) before first is h n heavy =
     let v : Violation = record { entry = e; level = l } in
     let most : 2 ^ 127 ≤ (violation_peak E v).weight = grind (arith, heavy) in
     subst (λ list. IsSaid E (before + 1) (at_levels e list) (Err (fail.Refused (Overflow OfSystem first)))) is (inl (refl, n, most))
+
+-- what is said of the dependences from place i on, where `number` violations are before them, is said of all
+abbrev pub EntriesGoOn : Edit → ℕ → List Dep → ℕ → Type 0
+EntriesGoOn E number list i =
+    (answer : Result Legal Fail) → IsSaid E (number + 1) (flat_map (λ e. violations_of E e) (drop i list)) answer → IsSaid E 1 (flat_map (λ e. violations_of E e) list) answer
+
+dep_in : (list : List Dep) (i : ℕ) (d : Dep) → i < length list → In (slice_index_or list i d) list
+dep_in [] i d h = absurd (omega arith)
+dep_in (x ∷ list) zero d h = inl refl
+dep_in (x ∷ list) (suc i) d h = inr (dep_in list i d (omega arith))
+
+drop_dep : (list : List Dep) (i : ℕ) (d : Dep) → i < length list → drop i list ≡ slice_index_or list i d ∷ drop (i + 1) list
+drop_dep [] i d h = absurd (omega arith)
+drop_dep (x ∷ list) zero d h = refl
+drop_dep (x ∷ list) (suc i) d h =
+    let next : suc i + 1 ≡ suc (i + 1) = omega arith in
+    drop_dep list i d (omega arith) ∙ ap (λ k. slice_index_or list i d ∷ drop k (x ∷ list)) (sym next)
+
+rest_said : (E : Edit) (number : ℕ) (list : List Dep) (i : ℕ) (d : Dep) (answer : Result Legal Fail) → i < length list
+    → IsSaid E (number + 1) (violations_of E (slice_index_or list i d) ++ flat_map (λ e. violations_of E e) (drop (i + 1) list)) answer
+    → IsSaid E (number + 1) (flat_map (λ e. violations_of E e) (drop i list)) answer
+rest_said E number list i d answer h said =
+    let same : flat_map (λ e. violations_of E e) (drop i list) ≡ violations_of E (slice_index_or list i d) ++ flat_map (λ e. violations_of E e) (drop (i + 1) list)
+    = ap (λ t. flat_map (λ e. violations_of E e) t) (drop_dep list i d h) ∙ flat_map-cons (λ e. violations_of E e) (slice_index_or list i d) (drop (i + 1) list) in
+    subst (λ t. IsSaid E (number + 1) t answer) (sym same) said
+
+pub entries_stop : (E : Edit) (number : ℕ) (list : List Dep) (i : ℕ) (d : Dep) (answer : Result Legal Fail) → EntriesGoOn E number list i → i < length list
+    → ¬ (answer ≡ Ok Yes) → IsSaid E (number + 1) (violations_of E (slice_index_or list i d)) answer → list ≡ dependences E → IsSaid E 1 (violations E) answer
+entries_stop E number list i d answer go h stops said is =
+    subst (λ t. IsSaid E 1 (flat_map (λ e. violations_of E e) t) answer) is
+    (go answer (rest_said E number list i d answer h (said_longer E (number + 1) (violations_of E (slice_index_or list i d)) (flat_map (λ e. violations_of E e) (drop (i + 1) list)) answer stops said)))
+
+pub entries_go_on : (E : Edit) (number next : ℕ) (levels : List ℕ) (list : List Dep) (i : ℕ) (d : Dep) → EntriesGoOn E number list i → i < length list
+    → levels ≡ new_levels E (slice_index_or list i d) → next ≡ number + length levels → IsSaid E (number + 1) (violations_of E (slice_index_or list i d)) (Ok Yes) → EntriesGoOn E next list (i + 1)
+entries_go_on E number next levels list i d go h is n said answer rest =
+    let e = slice_index_or list i d in
+    let long : length (violations_of E e) ≡ length levels = length-map (new_levels E e) (λ level. record { entry = e; level = level }) ∙ ap length (sym is) in
+    let count : next + 1 ≡ number + 1 + length (violations_of E e) = omega (arith, n, long) in
+    go answer (rest_said E number list i d answer h (said_behind E (number + 1) (violations_of E e) (flat_map (λ e. violations_of E e) (drop (i + 1) list)) answer
+    (yes_none E (number + 1) (violations_of E e) said) (subst (λ k. IsSaid E k (flat_map (λ e. violations_of E e) (drop (i + 1) list)) answer) count rest)))
+
+pub entries_end : (E : Edit) (number : ℕ) (list : List Dep) (i : ℕ) → EntriesGoOn E number list i → length list ≤ i → list ≡ dependences E → IsSaid E 1 (violations E) (Ok Yes)
+entries_end E number list i go h is =
+    subst (λ t. IsSaid E 1 (flat_map (λ e. violations_of E e) t) (Ok Yes)) is
+    (go (Ok Yes) (subst (λ t. IsSaid E (number + 1) (flat_map (λ e. violations_of E e) t) (Ok Yes)) (sym (drop_all list i h)) tt))
+
+pub entry_in : (E : Edit) (list : List Dep) (i : ℕ) (d : Dep) → list ≡ dependences E → i < length list → In (slice_index_or list i d) (dependences E)
+entry_in E list i d is h = subst (λ t. In (slice_index_or list i d) t) is (dep_in list i d h)

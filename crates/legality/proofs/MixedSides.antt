@@ -6,7 +6,7 @@ use Rattle.scop_core.specs.declared.statements.Statement.{Statement}
 use Rattle.scop_core.specs.ReadBack.{IsSolvedSchedule}
 use Rattle.scop_core.specs.Shapes.{IsShapedStatement, IsFormedStatement}
 use Rattle.dependence_systems.specs.Sides.{Side, member, schedule_in, under}
-use Rattle.dependence_systems.specs.Systems.{member_or}
+use Rattle.dependence_systems.specs.Sides.{member_or}
 use Rattle.dependence_systems.specs.Fits.{SideFits}
 use Rattle.dependence_systems.specs.Originals.{ArePieces}
 use Rattle.dependence_systems.proofs.Pairs.{all_member}

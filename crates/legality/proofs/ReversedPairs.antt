@@ -17,7 +17,8 @@ use Rattle.scop_core.proofs.ScopShapes.{scops_are_formed, scops_are_shaped}
 use Rattle.dependence_systems.specs.declared.dependences.Dep.{Dep}
 use Rattle.dependence_systems.specs.Sides.{Side, member, schedule_in, under, sides}
 use Rattle.dependence_systems.specs.Entries.{kind_between, can_meet}
-use Rattle.dependence_systems.specs.Systems.{Pairing, pairing_of, widths_of, member_or, no_side, no_part, no_access}
+use Rattle.dependence_systems.specs.Systems.{Pairing, pairing_of, widths_of, no_part, no_access}
+use Rattle.dependence_systems.specs.Sides.{member_or, no_side}
 use Rattle.dependence_systems.specs.Fits.{SideFits, PairingFits, SchedulesFit}
 use Rattle.dependence_systems.specs.Originals.{as_original}
 use Rattle.dependence_systems.proofs.Members.{in_flat_map, in_map}

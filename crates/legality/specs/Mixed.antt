@@ -6,7 +6,7 @@ use Rattle.scop_core.specs.declared.statements.Statement.{Statement}
 use Rattle.scop_core.specs.ScopData.{ScopData}
 use Rattle.scop_core.specs.SolvedRows.{zeros}
 use Rattle.dependence_systems.specs.Sides.{Side, member, schedule_in, under}
-use Rattle.dependence_systems.specs.Systems.{member_or}
+use Rattle.dependence_systems.specs.Sides.{member_or}
 
 -- the form with coefficients of so many floors: the missing ones are 0
 abbrev pub padded : ℕ → Affine → Affine

@@ -5,12 +5,12 @@ use Rattle.legality.proofs.reversing.push_reversed.Goals as goal
 pub push_equal_levels-requires-clause-source_count : goal.push_equal_levels-requires-clause-source_count
 push_equal_levels-requires-clause-source_count c =
     source_count c.args.w.now c.args.part.now.shape.parameters c.args.source.now c.args.target.now _ _ c.as_slice-sources.result.now
-    c.count_common-common.result c.requires.fits c.count_common-common.ensures c.as_slice.ensures c.as_slice-then-level-eq0.ensures c.as_slice-sources.ensures
+    c.count_common-common.result c.requires.fits c.count_common-common.ensures.answer c.as_slice.ensures c.as_slice-then-level-eq0.ensures c.as_slice-sources.ensures
 
 pub push_equal_levels-requires-clause-target_count : goal.push_equal_levels-requires-clause-target_count
 push_equal_levels-requires-clause-target_count c =
     target_count c.args.w.now c.args.part.now.shape.parameters c.args.source.now c.args.target.now _ _ c.as_slice-targets.result.now
-    c.count_common-common.result c.requires.fits c.count_common-common.ensures c.as_slice.ensures c.as_slice-then-level-eq0.ensures c.as_slice-targets.ensures
+    c.count_common-common.result c.requires.fits c.count_common-common.ensures.answer c.as_slice.ensures c.as_slice-then-level-eq0.ensures c.as_slice-targets.ensures
 
 pub push_equal_levels-requires-else-level-eq0-clause-source_count : goal.push_equal_levels-requires-else-level-eq0-clause-source_count
 push_equal_levels-requires-else-level-eq0-clause-source_count c =
