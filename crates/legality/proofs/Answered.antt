@@ -203,13 +203,14 @@ entries_stop E number list i d answer go h stops said is =
     (go answer (rest_said E number list i d answer h (said_longer E (number + 1) (violations_of E (slice_index_or list i d)) (flat_map (λ e. violations_of E e) (drop (i + 1) list)) answer stops said)))
 
 pub entries_go_on : (E : Edit) (number next : ℕ) (levels : List ℕ) (list : List Dep) (i : ℕ) (d : Dep) → EntriesGoOn E number list i → i < length list
-    → levels ≡ new_levels E (slice_index_or list i d) → next ≡ number + length levels → IsSaid E (number + 1) (violations_of E (slice_index_or list i d)) (Ok Yes) → EntriesGoOn E next list (i + 1)
-entries_go_on E number next levels list i d go h is n said answer rest =
+    → levels ≡ new_levels E (slice_index_or list i d) → next ≡ number + length levels → (said : Legal) → said ≡ Yes → IsSaid E (number + 1) (violations_of E (slice_index_or list i d)) (Ok said) → EntriesGoOn E next list (i + 1)
+entries_go_on E number next levels list i d go h is n said accepts held answer rest =
     let e = slice_index_or list i d in
+    let all : IsSaid E (number + 1) (violations_of E e) (Ok Yes) = subst (λ l. IsSaid E (number + 1) (violations_of E e) (Ok l)) accepts held in
     let long : length (violations_of E e) ≡ length levels = length-map (new_levels E e) (λ level. record { entry = e; level = level }) ∙ ap length (sym is) in
     let count : next + 1 ≡ number + 1 + length (violations_of E e) = omega (arith, n, long) in
     go answer (rest_said E number list i d answer h (said_behind E (number + 1) (violations_of E e) (flat_map (λ e. violations_of E e) (drop (i + 1) list)) answer
-    (yes_none E (number + 1) (violations_of E e) said) (subst (λ k. IsSaid E k (flat_map (λ e. violations_of E e) (drop (i + 1) list)) answer) count rest)))
+    (yes_none E (number + 1) (violations_of E e) all) (subst (λ k. IsSaid E k (flat_map (λ e. violations_of E e) (drop (i + 1) list)) answer) count rest)))
 
 pub entries_end : (E : Edit) (number : ℕ) (list : List Dep) (i : ℕ) → EntriesGoOn E number list i → length list ≤ i → list ≡ dependences E → IsSaid E 1 (violations E) (Ok Yes)
 entries_end E number list i go h is =
@@ -218,3 +219,10 @@ entries_end E number list i go h is =
 
 pub entry_in : (E : Edit) (list : List Dep) (i : ℕ) (d : Dep) → list ≡ dependences E → i < length list → In (slice_index_or list i d) (dependences E)
 entry_in E list i d is h = subst (λ t. In (slice_index_or list i d) t) is (dep_in list i d h)
+
+-- answers that are no Yes
+pub error_is_no_yes : (answer : Result Legal Fail) (f : Fail) → answer ≡ Err f → ¬ (answer ≡ Ok Yes)
+error_is_no_yes answer f e h = absurd (cc)
+
+pub illegal_is_no_yes : (k : ℕ) → (answer : Result Legal Fail) → answer ≡ Ok (Illegal k) → ¬ (answer ≡ Ok Yes)
+illegal_is_no_yes k answer e h = absurd (cc)

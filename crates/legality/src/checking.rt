@@ -4,20 +4,23 @@ ghost use Rattle.std.specs.Prelude.{◌≡◌, ◌+◌, ◌<◌, ◌^◌, IfOk, 
 ghost use Rattle.suite_base.specs.declared.refusals.Fail.TheVariants.{Memory};
 ghost use Rattle.scop_core.specs.Sequences.{In};
 ghost use Rattle.dependence_systems.specs.Systems.{system_weight};
-ghost use Rattle.legality.specs.Answers.{IsSaid};
-ghost use Rattle.legality.specs.Edits.{IsEdit};
-ghost use Rattle.legality.specs.Violations.{edit_of, dependences, new_levels, violations_of, shared_pairing, shared_system};
+ghost use Rattle.legality.specs.Answers.{IsAnswer, IsSaid};
+ghost use Rattle.legality.specs.Edits.{IsEdit, KeepsInstances};
+ghost use Rattle.legality.specs.Memories.{KeepsMemory};
+ghost use Rattle.legality.specs.Violations.{edit_of, dependences, new_levels, violations_of, violations, shared_pairing, shared_system};
 
 use crate::deciding::decide_violation;
 use crate::legal::Legal;
+use crate::levels::levels_of;
 use crate::systems::shared_part;
 use clay_commands::Edited;
-use dependence_systems::Dep;
+use dependence_systems::lookups::numbered;
+use dependence_systems::{Dep, deps};
 use relation_core::Part;
 use row_core::RowFail;
 use scop_core::Scop;
 use std::alloc::Global;
-use suite_base::{Fail, Refusal, Where};
+use suite_base::{Fail, List, NoMemory, Refusal, Where};
 
 // The number after these many; numbers of 2^32 and more are wanting like memory.
 fn number_after(number: u32, count: usize) -> Result<u32, Fail>
@@ -88,4 +91,64 @@ fn decide_entry(
         Err(RowFail::Memory) => Err(Fail::Memory),
         Err(RowFail::Overflow) => Err(Fail::Refused(Refusal::Overflow(Where::System, first))),
     }
+}
+
+// The levels of the violations of a dependence.
+fn entry_levels(
+    alloc: Global,
+    scop: &Scop,
+    edited: &Edited,
+    dep: &Dep,
+) -> Result<List<usize>, NoMemory>
+    requires edit { IsEdit (edit_of scop.now edited.now) }
+    requires listed { In dep.now (dependences (edit_of scop.now edited.now)) }
+    ensures { IfOk result (λ levels. levels ≡ new_levels (edit_of scop.now edited.now) dep.now) }
+{
+    let _edit = scop.statements();
+    let statements = edited.scop.statements();
+    let source = numbered(statements, dep.source);
+    let target = numbered(statements, dep.target);
+    levels_of(
+        alloc,
+        target.schedule.betas.as_slice(),
+        source.schedule.betas.as_slice(),
+    )
+}
+
+// Decides the violations of all dependences in this list.
+fn decide_entries(alloc: Global, scop: &Scop, edited: &Edited, list: &[Dep]) -> Result<Legal, Fail>
+    requires edit { IsEdit (edit_of scop.now edited.now) }
+    requires listed { list.now ≡ dependences (edit_of scop.now edited.now) }
+    ensures { IsSaid (edit_of scop.now edited.now) 1 (violations (edit_of scop.now edited.now)) result }
+{
+    let mut number = 0;
+    for dep in list {
+        let levels = entry_levels(alloc, scop, edited, dep)?;
+        let said = decide_entry(alloc, scop, edited, dep, levels.as_slice(), number)?;
+        match said {
+            Legal::Yes => {}
+            Legal::Illegal(k) => return Ok(Legal::Illegal(k)),
+        }
+        number = number_after(number, levels.len())?;
+    }
+    Ok(Legal::Yes)
+}
+
+/// Decides whether a script keeps the order of all pairs of instances that touch, from what it makes
+/// of a SCoP: the violation systems are decided in order.
+///
+/// `Limit(Systems, 0)` comes exactly where the new statements have more than 65,536 dependences in the
+/// order of their originals, and before every other answer. `Yes` comes where no violation system has
+/// a rational point. `Illegal(k)` comes where violation system k, from 1, is the first with one.
+/// `Overflow(System, k)` and `TooManyRows(k)` come only where the peak of violation system k passes
+/// 2^127 - 1 or 16,384 rows, and none before it has a point. At `Yes`, where the edit keeps the
+/// instances, each run of the SCoP in context is joined by a run of the edited one with the same final
+/// memory.
+pub fn check_edit(alloc: Global, scop: &Scop, edited: &Edited) -> Result<Legal, Fail>
+    requires edit { IsEdit (edit_of scop.now edited.now) }
+    ensures answer { IsAnswer (edit_of scop.now edited.now) result }
+    ensures memory { IfOk result (λ legal. legal ≡ Legal.Yes → KeepsInstances (edit_of scop.now edited.now) → KeepsMemory scop.now edited.now.scop) }
+{
+    let list = deps(alloc, scop, &edited.scop, &edited.of)?;
+    decide_entries(alloc, scop, edited, list.as_slice())
 }

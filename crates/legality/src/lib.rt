@@ -10,4 +10,5 @@ mod mixing;
 mod reversing;
 mod systems;
 
+pub use checking::check_edit;
 pub use legal::Legal;

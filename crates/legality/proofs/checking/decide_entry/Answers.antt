@@ -1,4 +1,4 @@
-use Rattle.std.proofs.Common.{◌≡◌, ◌<◌, length, arith}
+use Rattle.std.proofs.Common.{◌<◌, length, arith}
 use Rattle.legality.specs.Violations.{edit_of}
 use Rattle.legality.proofs.Answered.{first_heavy}
 use Rattle.legality.proofs.checking.decide_entry.Goals as goal

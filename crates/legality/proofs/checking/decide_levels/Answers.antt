@@ -1,8 +1,8 @@
-use Rattle.std.proofs.Common.{◌≡◌, ◌+◌, ◌∙◌, arith, subst, sym, ap, refl, slice_index_or, true, false, Bool, Ok, Err}
+use Rattle.std.proofs.Common.{◌+◌, ◌∙◌, arith, subst, sym, refl, slice_index_or, true, Ok, Err}
 use Rattle.std.proofs.lemmas.Result.{err_from_is_err_and}
 use Rattle.legality.specs.declared.legal.Legal.TheVariants.{Yes, Illegal}
 use Rattle.legality.specs.Violations.{edit_of}
-use Rattle.legality.specs.Answers.{IsSaid, IsTried, StopsHere, IsNone, IsLight, IsReal}
+use Rattle.legality.specs.Answers.{IsSaid, IsTried, StopsHere, IsNone}
 use Rattle.legality.proofs.Answered.{at_levels, level_at, stops_said, goes_on, ends_said}
 use Rattle.legality.proofs.checking.decide_levels.Goals as goal
 

@@ -1,4 +1,4 @@
-use Rattle.std.proofs.Common.{◌≡◌, ap, sym, ◌∙◌, ◌++◌, ◌∷◌, [], ◌+◌}
+use Rattle.std.proofs.Common.{ap, sym, ◌∙◌, ◌++◌, ◌∷◌, [], ◌+◌}
 use Rattle.legality.proofs.Answered.{upto_more}
 use Rattle.legality.proofs.levels.levels_upto.Goals as goal
 

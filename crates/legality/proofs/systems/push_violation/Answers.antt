@@ -1,4 +1,3 @@
-use Rattle.std.proofs.Common.{◌≡◌, OnOk}
 use Rattle.dependence_systems.proofs.NamedSides.{statement_there, part_there}
 use Rattle.legality.specs.Violations.{edit_of}
 use Rattle.legality.proofs.ReadyEntries.{source_there, target_there}

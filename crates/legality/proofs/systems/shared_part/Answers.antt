@@ -1,8 +1,8 @@
-use Rattle.std.proofs.Common.{◌≡◌, ◌≤◌, ◌<◌, ◌^◌, OnOk, IfOk, IfErr, ap, sym, ◌∙◌, subst}
+use Rattle.std.proofs.Common.{◌≡◌, ◌≤◌, ◌<◌, ◌^◌, OnOk, IfOk, IfErr, sym, subst}
 use Rattle.row_core.specs.declared.arithmetic.RowFail.TheVariants.{Overflow}
 use Rattle.dependence_systems.specs.Systems.{pairing, level_system, system_weight}
 use Rattle.dependence_systems.proofs.NamedSides.{statement_there, access_there, part_there}
-use Rattle.legality.specs.Violations.{Edit, edit_of, shared_pairing}
+use Rattle.legality.specs.Violations.{edit_of, shared_pairing}
 use Rattle.legality.proofs.ReadyEntries.{source_there, target_there, looked, found_for, ready_for}
 use Rattle.legality.proofs.systems.shared_part.Goals as goal
 
