@@ -45,5 +45,5 @@ accepted_edits_keep_memory E kept all n in_context L run =
 -- so it is where the answer is Yes
 pub yes_keeps : (E : Edit) (answer : Result Legal Fail) → IsSaid E 1 (violations E) answer → IfOk answer (λ legal. legal ≡ Yes → KeepsInstances E → KeepsMemory E.old E.now)
 yes_keeps E (Err f) said = tt
-yes_keeps E (Ok legal) said accepted kept =
+yes_keeps E (Ok legal) said = λ accepted kept.
     accepted_edits_keep_memory E kept (yes_none E 1 (violations E) (subst (λ l. IsSaid E 1 (violations E) (Ok l)) accepted said))
