@@ -10,3 +10,4 @@ pub mod KeptMemories
 pub mod ReadyEntries
 pub mod Answered
 pub mod ViolationRows
+pub mod ScriptEdits

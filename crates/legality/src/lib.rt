@@ -8,7 +8,9 @@ mod legal;
 mod levels;
 mod mixing;
 mod reversing;
+mod scripts;
 mod systems;
 
 pub use checking::check_edit;
 pub use legal::Legal;
+pub use scripts::check;
