@@ -7,3 +7,7 @@ pub mod Comes
 pub mod Once
 pub mod Scripts
 pub mod Instances
+pub mod Unrefused
+pub mod Vectors
+pub mod Trees
+pub mod Runs

@@ -1,5 +1,5 @@
 -- What a script keeps of a SCoP: its instances, under the numbers of their originals.
-use Rattle.std.specs.Prelude.{◌≡◌, ℕ, ℤ, List, [], ◌∷◌, ◌++◌, length, IsSomeAnd}
+use Rattle.std.specs.Prelude.{◌≡◌, ◌<◌, ◌+◌, ◌^◌, ℕ, ℤ, None, List, [], ◌∷◌, ◌++◌, length, IsSomeAnd}
 use Rattle.scop_core.specs.declared.schedules.Schedule.{Schedule}
 use Rattle.scop_core.specs.declared.statements.Statement.{Statement}
 use Rattle.scop_core.specs.ScopData.{ScopData}
@@ -12,7 +12,7 @@ use Rattle.dependence_systems.specs.Sides.{member}
 use Rattle.dependence_systems.specs.Originals.{as_original}
 use Rattle.clay_script.specs.declared.commands.Command.{Command}
 use Rattle.clay_commands.specs.declared.edited.Edited.{Edited}
-use Rattle.clay_commands.specs.Afters.{after_script, IsFormed}
+use Rattle.clay_commands.specs.Afters.{after_script, IsFormed, refusal_of}
 
 -- the floors of one schedule begin with those of another, by their values
 abbrev pub FloorsGoOn : Schedule → Schedule → Type 0
@@ -46,3 +46,17 @@ ScriptsKeepInstances = (S : ScopData) (script : List Command) → IsValid S → 
 abbrev pub ScriptsMakeNoTies : Type 0
 ScriptsMakeNoTies = (S : ScopData) (script : List Command) → IsValid S → IsFormed S script → HasValidSchedules (after_script S script).scop.statements
     → (n : List ℤ) (L : List Instance) → length n ≡ S.context.shape.parameters → Run S n L → HasNoTies (after_script S script).scop n
+
+-- a script that is not refused is such
+abbrev pub UnrefusedScriptsAreFormed : Type 0
+UnrefusedScriptsAreFormed = (S : ScopData) (script : List Command) → refusal_of S script ≡ None → IsFormed S script
+
+-- with fewer than 2^32 statements and commands together the new schedules are valid, past the limits too
+abbrev pub ScriptsKeepSchedulesValid : Type 0
+ScriptsKeepSchedulesValid = (S : ScopData) (script : List Command) → IsValid S → IsFormed S script → length S.statements + length script < 2 ^ 32
+    → HasValidSchedules (after_script S script).scop.statements
+
+-- then the edited SCoP has a run where the old one has
+abbrev pub ScriptsKeepRuns : Type 0
+ScriptsKeepRuns = (S : ScopData) (script : List Command) → IsValid S → IsFormed S script → length S.statements + length script < 2 ^ 32
+    → (n : List ℤ) (L : List Instance) → length n ≡ S.context.shape.parameters → Run S n L → (M : List Instance) × Run (after_script S script).scop n M

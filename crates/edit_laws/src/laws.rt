@@ -1,7 +1,7 @@
 //! The laws of edits, for every SCoP and every script of which no condition fails: functions that do
 //! nothing, and whose contracts are the laws.
 
-ghost use Rattle.edit_laws.specs.Keeping.{ScriptsKeepInstances, ScriptsMakeNoTies};
+ghost use Rattle.edit_laws.specs.Keeping.{ScriptsKeepInstances, ScriptsKeepRuns, ScriptsKeepSchedulesValid, ScriptsMakeNoTies, UnrefusedScriptsAreFormed};
 
 /// The instances of the edited SCoP are those of the old one, each once and with the same events.
 pub fn scripts_keep_instances()
@@ -12,4 +12,20 @@ pub fn scripts_keep_instances()
 /// one have one stamp.
 pub fn scripts_make_no_ties()
     ensures { ScriptsMakeNoTies }
+{}
+
+/// No condition fails in a script that is not refused.
+pub fn unrefused_scripts_are_formed()
+    ensures { UnrefusedScriptsAreFormed }
+{}
+
+/// With fewer than 2^32 statements and commands together the new schedules are valid, past the limits too.
+pub fn scripts_keep_schedules_valid()
+    ensures { ScriptsKeepSchedulesValid }
+{}
+
+/// The edited SCoP has a run wherever the old one has, past the limits too; its members are the instances
+/// of the edited SCoP, which are the old ones, each once.
+pub fn scripts_keep_runs()
+    ensures { ScriptsKeepRuns }
 {}
