@@ -27,7 +27,7 @@ use Rattle.edit_laws.proofs.Scripts.{all_have, all_only, start_has, start_only}
 
 -- members of lists
 
-same_some : {X : Type 0} (a b : X) → Some a ≡ Some b → a ≡ b
+pub same_some : {X : Type 0} (a b : X) → Some a ≡ Some b → a ≡ b
 same_some a b e = ap (λ o. member_or a o) e
 
 pub member_map : {X Y : Type 0} (f : X → Y) (xs : List X) (m : ℕ) (x : X) → member xs m ≡ Some x → member (map f xs) m ≡ Some (f x)
@@ -63,7 +63,7 @@ located [] (suc m) P h = absurd h
 located (leaf ∷ D) (suc zero) P h = record { leaf = leaf; found = refl; has = h }
 located (leaf ∷ D) (suc (suc m)) P h = let l = located D (suc m) P h in record { leaf = l.leaf; found = l.found; has = l.has }
 
-have_at : (old : List Statement) (D : Draft) (m : ℕ) (leaf : Leaf) → AllHave old D → member D m ≡ Some leaf → HasOriginal old leaf
+pub have_at : (old : List Statement) (D : Draft) (m : ℕ) (leaf : Leaf) → AllHave old D → member D m ≡ Some leaf → HasOriginal old leaf
 have_at old [] zero leaf h e = absurd (cc)
 have_at old [] (suc m) leaf h e = absurd (cc)
 have_at old (a ∷ D) zero leaf h e = absurd (cc)
@@ -89,10 +89,10 @@ find S D n a have i =
 abbrev pub originals : Draft → List ℕ
 originals D = map (λ leaf. leaf.original) D
 
-original_is : (D : Draft) (m : ℕ) (leaf : Leaf) → member D m ≡ Some leaf → member_or 0 (member (originals D) m) ≡ leaf.original
+pub original_is : (D : Draft) (m : ℕ) (leaf : Leaf) → member D m ≡ Some leaf → member_or 0 (member (originals D) m) ≡ leaf.original
 original_is D m leaf e = ap (λ o. member_or 0 o) (member_map (λ t. t.original) D m leaf e)
 
-new_statement : (S : ScopData) (D : Draft) (m : ℕ) (leaf : Leaf) → member D m ≡ Some leaf → statement_at (closed S D).statements m ≡ Some (closed_leaf leaf)
+pub new_statement : (S : ScopData) (D : Draft) (m : ℕ) (leaf : Leaf) → member D m ≡ Some leaf → statement_at (closed S D).statements m ≡ Some (closed_leaf leaf)
 new_statement S D m leaf e = statement_is (map closed_leaf D) m ∙ member_map closed_leaf D m leaf e
 
 old_statement : (S : ScopData) (D : Draft) (n : List ℤ) (a : Instance) (f : Found S D n a) → statement_at S.statements (as_original (originals D) a).statement ≡ Some f.original
@@ -126,7 +126,7 @@ at_statement x k = record { statement = k; values = x }
 abbrev with_values : ℕ → List ℤ → Instance
 with_values k x = record { statement = k; values = x }
 
-same_instance : (a b : Instance) → a.statement ≡ b.statement → a.values ≡ b.values → a ≡ b
+pub same_instance : (a b : Instance) → a.statement ≡ b.statement → a.values ≡ b.values → a ≡ b
 same_instance a b s v = ap (at_statement a.values) s ∙ ap (with_values b.statement) v
 
 onto : (S : ScopData) (D : Draft) (n : List ℤ) (b : Instance) → Only b.statement b.values n D → (a : Instance) × IsInstance (closed S D) n a × (as_original (originals D) a ≡ b)

@@ -11,3 +11,5 @@ pub mod Unrefused
 pub mod Vectors
 pub mod Trees
 pub mod Runs
+pub mod Numbers
+pub mod Brought

@@ -120,7 +120,7 @@ halves_nowhere j x n P xs ns c leaf h = (
   (λ k. h (from_half j x n (map neg_ℤ xs) (map neg_ℤ ns) (neg_ℤ c +ℤ negsuc 0) (next_sibling P) leaf k), tt),
 )
 
-own_prefix : (P v : List ℕ) → same_vector v P ≡ true → is_under P v ≡ true
+pub own_prefix : (P v : List ℕ) → same_vector v P ≡ true → is_under P v ≡ true
 own_prefix P v same = subst (λ w. is_some (after P w) ≡ true) (append-nil P ∙ sym (same_vector_yes v P same)) (ap (λ o. is_some o) (after_append P []))
 
 split_only : (parameters j : ℕ) (x n : List ℤ) (p xs ns : List ℤ) (c : ℤ) (leaf : Leaf) → length n ≡ parameters

@@ -28,7 +28,7 @@ use Rattle.edit_laws.proofs.Pieces.{Fits, fits}
 use Rattle.edit_laws.proofs.Comes.{ComesFrom, AllHave, step_has}
 use Rattle.edit_laws.proofs.Once.{Only, step_only, only_from}
 
-none_is : (o : Option Refusal) → is_none o ≡ true → o ≡ None
+pub none_is : (o : Option Refusal) → is_none o ≡ true → o ≡ None
 none_is None h = refl
 none_is (Some r) h = absurd (cc)
 
@@ -37,7 +37,7 @@ under_condition : (b : Bool) (o : Option Refusal) (r : Refusal) → (if b then S
 under_condition true o r h = absurd (cc)
 under_condition false o r h = h
 
-step_fits : (parameters : ℕ) (command : Command) (D : Draft) → is_none (condition_of parameters 1 command D) ≡ true → AllUnder (prefix_in command) (Fits parameters command) D
+pub step_fits : (parameters : ℕ) (command : Command) (D : Draft) → is_none (condition_of parameters 1 command D) ≡ true → AllUnder (prefix_in command) (Fits parameters command) D
 step_fits m command D h =
     fits m 1 command (prefix_in command) D
     (under_condition (not (are_natural (prefix_of command)) || no_statement (prefix_in command) (betas_of D)) (condition_under m 1 command (prefix_in command) D) (refusal.NoBeta 1)

@@ -2,6 +2,7 @@
 //! nothing, and whose contracts are the laws.
 
 ghost use Rattle.edit_laws.specs.Keeping.{ScriptsKeepInstances, ScriptsKeepRuns, ScriptsKeepSchedulesValid, ScriptsMakeNoTies, UnrefusedScriptsAreFormed};
+ghost use Rattle.edit_laws.specs.Stamping.{ScriptsBringInstances, ScriptsEditValues};
 
 /// The instances of the edited SCoP are those of the old one, each once and with the same events.
 pub fn scripts_keep_instances()
@@ -28,4 +29,16 @@ pub fn scripts_keep_schedules_valid()
 /// of the edited SCoP, which are the old ones, each once.
 pub fn scripts_keep_runs()
     ensures { ScriptsKeepRuns }
+{}
+
+/// A script brings each instance to an instance of the edited SCoP that has the edited stamp and comes from
+/// it; every new instance is where the script brings the one that it comes from.
+pub fn scripts_bring_instances()
+    ensures { ScriptsBringInstances }
+{}
+
+/// Along a script that splits no statement, the edited values and the edited stamp of a statement are those
+/// of its forms at all integers, instances or not.
+pub fn scripts_edit_values()
+    ensures { ScriptsEditValues }
 {}
