@@ -9,6 +9,7 @@ use Rattle.beta_tree.proofs.Orders.{and_left, and_right}
 use Rattle.scop_core.specs.declared.schedules.Schedule.{Schedule}
 use Rattle.scop_core.specs.declared.statements.Statement.{Statement}
 use Rattle.scop_core.specs.ScopData.{ScopData, betas_in}
+use Rattle.scop_core.specs.Sequences.{In}
 use Rattle.scop_core.specs.Validity.{IsValid}
 use Rattle.scop_core.specs.Meaning.{Instance, InDomain, IsInstance, interleaved, statement_at, stamp_in}
 use Rattle.scop_core.specs.LevelOrder.{level_values}
@@ -25,7 +26,7 @@ use Rattle.clay_commands.specs.Steps.{AllUnder}
 use Rattle.clay_commands.specs.Afters.{closed_leaf, closed, after_script, IsFormed}
 use Rattle.clay_commands.proofs.Changeables.{le_true}
 use Rattle.clay_commands.proofs.Closings.{drafted_betas}
-use Rattle.edit_laws.specs.Stamping.{edited_instance, IsBrought, ScriptsBringInstances, SplitsNone, ScriptsEditValues}
+use Rattle.edit_laws.specs.Stamping.{edited_instance, IsBrought, ScriptsBringInstances, SplitsNone, ScriptsEditValues, RunsHaveEditedInstances}
 use Rattle.edit_laws.proofs.Levels.{AreWide, IsWithin, values_follow}
 use Rattle.edit_laws.proofs.Pieces.{Fits}
 use Rattle.edit_laws.proofs.Domains.{condition_at, parts_to, other_value}
@@ -337,3 +338,13 @@ scripts_bring_instances S script valid formed few n en =
           let h = brought S script valid formed few n en c (maps.into b i) in
           sym (maps.once (edited_instance S script n c) b h.there i h.original);
     }
+
+pub runs_have_edited_instances : RunsHaveEditedInstances
+runs_have_edited_instances S script valid formed few n M en run b = (
+  λ i.
+      let there = run.only b i in
+      let a = as_original (after_script S script).of b in
+      let maps = (scripts_keep_instances S script valid formed).instances n en in
+      (a, maps.into b there, sym ((scripts_bring_instances S script valid formed few n en).only b there)),
+  λ s. subst (λ c. In c M) s.2 (run.all (edited_instance S script n s.0) (brought S script valid formed few n en s.0 s.1).there),
+)

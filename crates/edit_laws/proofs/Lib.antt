@@ -1,3 +1,4 @@
+mod Checks
 pub mod Rows
 pub mod Lists
 pub mod Levels

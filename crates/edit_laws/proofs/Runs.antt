@@ -1,9 +1,8 @@
 -- The schedules after a script are valid, and the edited SCoP has a run.
-use Rattle.std.proofs.Common.{◌≡◌, ℕ, zero, suc, ◌+◌, ◌<◌, ◌≤◌, ◌^◌, true, Option, Some, None, List, [], ◌∷◌, length, map, pos, refl, ap, sym, subst, ◌∙◌, arith}
+use Rattle.std.proofs.Common.{◌≡◌, ℕ, zero, suc, ◌+◌, ◌<◌, ◌≤◌, ◌^◌, true, Some, List, [], ◌∷◌, length, map, pos, ap, sym, subst, ◌∙◌, arith}
 use Rattle.std.specs.Prelude.{All, is_none}
 use Rattle.std.proofs.lemmas.List.{length-map}
 use Rattle.std.proofs.lemmas.List.Elements.{All-head, All-tail}
-use Rattle.suite_base.specs.declared.refusals.Refusal.{Refusal}
 use Rattle.row_core.specs.Dense.{dense_among}
 use Rattle.beta_tree.specs.Vectors.{IsTree}
 use Rattle.beta_tree.proofs.Dense.{dense_tree}
@@ -24,16 +23,13 @@ use Rattle.clay_commands.proofs.Closings.{can_number, drafted_betas, drafted_sou
 use Rattle.edit_laws.specs.Keeping.{ScriptsKeepSchedulesValid, ScriptsKeepRuns}
 use Rattle.edit_laws.proofs.Vectors.{betas_after, long_after}
 use Rattle.edit_laws.proofs.Trees.{AreSized, step_sized, step_tree}
+use Rattle.edit_laws.proofs.Scripts.{none_is}
 use Rattle.edit_laws.proofs.Instances.{scripts_keep_instances, scripts_make_no_ties}
 
 -- the vectors are a tree, each longer by one than the levels
 pub record IsPlanted (D : Draft) : Type 0 where
   pub tree : IsTree (betas_of D)
   pub sized : AreSized D
-
-none_is : (o : Option Refusal) → is_none o ≡ true → o ≡ None
-none_is None h = refl
-none_is (Some r) h = absurd (cc)
 
 pub length_betas : (D : Draft) → length (betas_of D) ≡ length D
 length_betas D = length-map D (λ leaf. leaf.beta)

@@ -16,6 +16,7 @@ use Rattle.clay_commands.specs.Arguments.{natural, are_natural, prefix_in, order
 use Rattle.clay_commands.specs.Drafts.{Draft, betas_of, drafted, draft_after}
 use Rattle.clay_commands.specs.Refusals.{refused, level_then, is_within, can_cut, all_under, condition_under, condition_of, limit_of, overflow_of, refusal_at, first_refusal, is_formed}
 use Rattle.edit_laws.specs.Keeping.{UnrefusedScriptsAreFormed}
+use Rattle.edit_laws.proofs.Scripts.{none_is}
 
 refused_same : (i j : ℕ) (r : Result (List (List ℕ)) BetaFail) → is_none (refused i r) ≡ is_none (refused j r)
 refused_same i j (Ok V) = refl
@@ -56,10 +57,6 @@ first_none (Some r) b h = absurd (cc)
 rest_none : (a b : Option Refusal) → or_else a b ≡ None → b ≡ None
 rest_none None b h = h
 rest_none (Some r) b h = absurd (cc)
-
-none_is : (o : Option Refusal) → is_none o ≡ true → o ≡ None
-none_is None h = refl
-none_is (Some r) h = absurd (cc)
 
 both : (a b : Bool) → a ≡ true → b ≡ true → (a && b) ≡ true
 both a b e f = rw e f

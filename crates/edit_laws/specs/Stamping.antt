@@ -1,8 +1,9 @@
 -- Where a script brings the instances of a SCoP, and the values of its levels at any point.
-use Rattle.std.specs.Prelude.{◌≡◌, ◌<◌, ◌+◌, ◌^◌, ℕ, ℤ, List, [], ◌∷◌, length}
+use Rattle.std.specs.Prelude.{◌≡◌, ◌↔◌, ◌<◌, ◌+◌, ◌^◌, ℕ, ℤ, List, [], ◌∷◌, length}
 use Rattle.scop_core.specs.declared.statements.Statement.{Statement}
 use Rattle.scop_core.specs.ScopData.{ScopData}
-use Rattle.scop_core.specs.Meaning.{Instance, IsInstance, stamp, stamp_in, statement_at}
+use Rattle.scop_core.specs.Meaning.{Instance, IsInstance, Run, stamp, stamp_in, statement_at}
+use Rattle.scop_core.specs.Sequences.{In}
 use Rattle.scop_core.specs.Validity.{IsValid}
 use Rattle.scop_core.specs.Theorems.{IsStatement}
 use Rattle.dependence_systems.specs.Originals.{as_original}
@@ -45,3 +46,9 @@ pub record HasEditedValues (S : ScopData) (script : List Command) (k : ℕ) (x n
 abbrev pub ScriptsEditValues : Type 0
 ScriptsEditValues = (S : ScopData) (script : List Command) → IsValid S → IsFormed S script → SplitsNone script
     → (k : ℕ) (s : Statement) → IsStatement S.statements k s → (x n : List ℤ) → HasEditedValues S script k x n
+
+-- the members of a run of the edited SCoP are the instances where the script brings those of the old one
+abbrev pub RunsHaveEditedInstances : Type 0
+RunsHaveEditedInstances = (S : ScopData) (script : List Command) → IsValid S → IsFormed S script → length S.statements + length script < 2 ^ 32
+    → (n : List ℤ) (M : List Instance) → length n ≡ S.context.shape.parameters → Run (after_script S script).scop n M
+    → (b : Instance) → In b M ↔ ((a : Instance) × IsInstance S n a × (edited_instance S script n a ≡ b))

@@ -2,7 +2,7 @@
 //! nothing, and whose contracts are the laws.
 
 ghost use Rattle.edit_laws.specs.Keeping.{ScriptsKeepInstances, ScriptsKeepRuns, ScriptsKeepSchedulesValid, ScriptsMakeNoTies, UnrefusedScriptsAreFormed};
-ghost use Rattle.edit_laws.specs.Stamping.{ScriptsBringInstances, ScriptsEditValues};
+ghost use Rattle.edit_laws.specs.Stamping.{RunsHaveEditedInstances, ScriptsBringInstances, ScriptsEditValues};
 
 /// The instances of the edited SCoP are those of the old one, each once and with the same events.
 pub fn scripts_keep_instances()
@@ -41,4 +41,9 @@ pub fn scripts_bring_instances()
 /// of its forms at all integers, instances or not.
 pub fn scripts_edit_values()
     ensures { ScriptsEditValues }
+{}
+
+/// The members of a run of the edited SCoP are the instances where the script brings those of the old one.
+pub fn runs_have_edited_instances()
+    ensures { RunsHaveEditedInstances }
 {}
