@@ -1,5 +1,5 @@
 -- The system of a dependence over the floors of the new schedules can be built.
-use Rattle.std.proofs.Common.{◌≡◌, ℕ, ◌+◌, ◌≤◌, List, length, All, Option, Some, None, IsSomeAnd, IsSome, is_some, true, refl, ap, sym, ◌∙◌, subst, arith}
+use Rattle.std.proofs.Common.{◌≡◌, ℕ, ◌≤◌, List, length, All, Some, ap, sym, ◌∙◌, subst, arith}
 use Rattle.relation_core.specs.Systems.{System, HasLimits}
 use Rattle.scop_core.specs.declared.accesses.Access.{Access}
 use Rattle.scop_core.specs.declared.schedules.Schedule.{Schedule}
@@ -12,17 +12,16 @@ use Rattle.scop_core.specs.Shapes.{IsShapedStatement}
 use Rattle.scop_core.proofs.KeptLimits.{keeps_limits}
 use Rattle.scop_core.proofs.ScopShapes.{scops_are_formed, scops_are_shaped}
 use Rattle.dependence_systems.specs.declared.dependences.Dep.{Dep}
-use Rattle.dependence_systems.specs.Sides.{Side, member, schedule_in, under, sides}
-use Rattle.dependence_systems.specs.Entries.{entries, kind_between, can_meet}
+use Rattle.dependence_systems.specs.Sides.{member, schedule_in, under, sides}
 use Rattle.dependence_systems.specs.Systems.{Pairing, pairing, widths_of, system_shape}
 use Rattle.dependence_systems.specs.Fits.{SideFits, PairingFits, SchedulesFit}
 use Rattle.dependence_systems.specs.Originals.{HasOriginals}
 use Rattle.dependence_systems.specs.Lookups.{HasSide, IsReady}
 use Rattle.dependence_systems.proofs.EntryFound.{IsEntry, listed_entry}
 use Rattle.dependence_systems.proofs.NamedSides.{has_source, has_target}
-use Rattle.dependence_systems.proofs.Pairs.{all_member, named, named_fits}
+use Rattle.dependence_systems.proofs.Pairs.{all_member, named_fits}
 use Rattle.dependence_systems.proofs.ScopPairs.{originals_match}
-use Rattle.legality.specs.Mixed.{mixed, mixed_sides, old_schedule, mixed_at}
+use Rattle.legality.specs.Mixed.{mixed_sides, old_schedule, mixed_at}
 use Rattle.legality.specs.Violations.{Edit, dependences, new_schedule, shared_pairing}
 use Rattle.legality.specs.Edits.{IsEdit}
 use Rattle.legality.proofs.MixedSides.{mixed_match, pieces_are, mixed_fit}

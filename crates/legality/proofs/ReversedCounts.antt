@@ -1,11 +1,11 @@
 -- The levels that the rows of a new level speak of are there.
-use Rattle.std.proofs.Common.{◌≡◌, ℕ, zero, suc, ◌+◌, ◌-◌, ◌<◌, ◌≤◌, List, length, ℤ, refl, ap, sym, ◌∙◌, subst, arith}
+use Rattle.std.proofs.Common.{◌≡◌, ℕ, zero, suc, ◌-◌, ◌<◌, ◌≤◌, List, length, ℤ, refl, ap, ◌∙◌, arith}
 use Rattle.scop_core.specs.declared.affines.Affine.{Affine}
 use Rattle.scop_core.specs.declared.schedules.Schedule.{Schedule}
 use Rattle.scop_core.specs.LevelOrder.{common_loops, IsLevel}
 use Rattle.dependence_systems.specs.declared.widths.Widths.{Widths}
 use Rattle.dependence_systems.specs.Fits.{SchedulesFit}
-use Rattle.legality.proofs.ReversedRows.{Common, common}
+use Rattle.legality.proofs.ReversedRows.{common}
 
 -- as many levels as loops in common
 pub source_count : (w : Widths) (parameters : ℕ) (s t : Schedule) (ps qs : List ℤ) (sources : List Affine) (count : ℕ) → SchedulesFit w parameters s t

@@ -1,9 +1,6 @@
 -- The rows of a violation behind those that it shares.
-use Rattle.std.proofs.Common.{◌≡◌, ℕ, List, ◌++◌, Option, Some, Result, Ok, Err, OnOk, refl, ap, sym, ◌∙◌, subst}
+use Rattle.std.proofs.Common.{◌≡◌, ℕ, List, ◌++◌, Some, Result, Ok, Err, OnOk, ap, sym, ◌∙◌, subst}
 use Rattle.relation_core.specs.Systems.{System}
-use Rattle.relation_core.specs.declared.shapes.Shape.{Shape}
-use Rattle.relation_core.specs.declared.part_rows.PartRow.{PartRow}
-use Rattle.scop_core.specs.declared.schedules.Schedule.{Schedule}
 use Rattle.scop_core.specs.declared.statements.Statement.{Statement}
 use Rattle.scop_core.specs.Sequences.{In}
 use Rattle.dependence_systems.specs.declared.dependences.Dep.{Dep}
@@ -14,7 +11,7 @@ use Rattle.dependence_systems.specs.Systems.{widths_for, widths_of, shape_with}
 use Rattle.dependence_systems.proofs.EntryFound.{IsEntry, listed_entry}
 use Rattle.legality.specs.Mixed.{mixed_sides, mixed_at}
 use Rattle.legality.specs.Reversals.{reversed_rows}
-use Rattle.legality.specs.Violations.{Edit, Violation, dependences, new_schedule, shared_pairing, shared_system, violation_system}
+use Rattle.legality.specs.Violations.{Edit, dependences, new_schedule, shared_pairing, shared_system, violation_system}
 use Rattle.legality.specs.Edits.{IsEdit}
 use Rattle.legality.proofs.MixedSides.{mixed_match}
 use Rattle.legality.proofs.ReversedPairs.{Statements, pairing_by}

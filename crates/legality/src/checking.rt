@@ -104,7 +104,6 @@ fn entry_levels(
     requires listed { In dep.now (dependences (edit_of scop.now edited.now)) }
     ensures { IfOk result (λ levels. levels ≡ new_levels (edit_of scop.now edited.now) dep.now) }
 {
-    let _edit = scop.statements();
     let statements = edited.scop.statements();
     let source = numbered(statements, dep.source);
     let target = numbered(statements, dep.target);

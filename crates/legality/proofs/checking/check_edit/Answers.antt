@@ -1,4 +1,4 @@
-use Rattle.std.proofs.Common.{◌≡◌, ◌≤◌, length, subst}
+use Rattle.std.proofs.Common.{◌≤◌, length, subst}
 use Rattle.suite_base.specs.Limits.{max_systems}
 use Rattle.legality.specs.Violations.{edit_of}
 use Rattle.legality.proofs.ReadyEntries.{has_originals}

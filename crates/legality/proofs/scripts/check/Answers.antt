@@ -1,9 +1,8 @@
-use Rattle.std.proofs.Common.{◌≡◌, subst, sym, IfOk}
+use Rattle.std.proofs.Common.{◌≡◌, subst, sym}
 use Rattle.std.proofs.lemmas.Result.{IfOk-weaker}
 use Rattle.scop_core.specs.Validity.{IsValid}
 use Rattle.clay_commands.specs.declared.edited.Edited.{Edited}
 use Rattle.clay_commands.specs.Afters.{after_script}
-use Rattle.legality.specs.declared.legal.Legal.{Legal}
 use Rattle.legality.specs.declared.legal.Legal.TheVariants.{Yes}
 use Rattle.legality.specs.Violations.{edit_of}
 use Rattle.legality.specs.Edits.{IsEdit, KeepsInstances}
