@@ -16,8 +16,9 @@ use crate::systems::shared_part;
 use clay_commands::Edited;
 use dependence_systems::lookups::numbered;
 use dependence_systems::{Dep, deps};
+use elim_core::{Reduced, reduce};
 use relation_core::Part;
-use row_core::RowFail;
+use row_core::{RowFail, SparseRow};
 use scop_core::Scop;
 use std::alloc::Global;
 use suite_base::{Fail, List, NoMemory, Refusal, Where};
@@ -43,6 +44,7 @@ fn decide_levels(
     scop: &Scop,
     edited: &Edited,
     dep: &Dep,
+    shared: &Reduced<SparseRow>,
     part: &mut Part,
     levels: &[usize],
     before: u32,
@@ -50,6 +52,7 @@ fn decide_levels(
     requires edit { IsEdit (edit_of scop.now edited.now) }
     requires listed { In dep.now (dependences (edit_of scop.now edited.now)) }
     requires shared { part.old ≡ shared_system (edit_of scop.now edited.now) dep.now }
+    requires reduced { shared.now ≡ shared_system (edit_of scop.now edited.now) dep.now }
     requires light { system_weight (shared_pairing (edit_of scop.now edited.now) dep.now) dep.now.level < 2 ^ 127 }
     requires levels { levels.now ≡ new_levels (edit_of scop.now edited.now) dep.now }
     ensures { IsSaid (edit_of scop.now edited.now) (before + 1) (violations_of (edit_of scop.now edited.now) dep.now) result }
@@ -57,7 +60,7 @@ fn decide_levels(
     let mut number = before;
     for level in levels {
         number = number_after(number, 1)?;
-        if decide_violation(alloc, scop, edited, dep, part, *level, number)? {
+        if decide_violation(alloc, scop, edited, dep, shared, part, *level, number)? {
             return Ok(Legal::Illegal(number));
         }
     }
@@ -86,7 +89,8 @@ fn decide_entry(
     match shared_part(alloc, scop, edited, dep) {
         Ok(part) => {
             let mut part = part;
-            decide_levels(alloc, scop, edited, dep, &mut part, levels, before)
+            let shared = reduce::<SparseRow>(alloc, &part)?;
+            decide_levels(alloc, scop, edited, dep, &shared, &mut part, levels, before)
         }
         Err(RowFail::Memory) => Err(Fail::Memory),
         Err(RowFail::Overflow) => Err(Fail::Refused(Refusal::Overflow(Where::System, first))),

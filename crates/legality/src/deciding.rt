@@ -4,6 +4,7 @@ ghost use Rattle.std.specs.Prelude.{◌≡◌, ◌<◌, ◌^◌, OnOk};
 ghost use Rattle.scop_core.specs.LevelOrder.{IsLevel};
 ghost use Rattle.scop_core.specs.Sequences.{In};
 ghost use Rattle.dependence_systems.specs.Systems.{system_weight};
+ghost use Rattle.elim_core.specs.Reductions.{BeginsWith};
 ghost use Rattle.legality.specs.Answers.{IsDecided, IsTried};
 ghost use Rattle.legality.specs.Edits.{IsEdit};
 ghost use Rattle.legality.specs.Violations.{edit_of, dependences, new_schedule, shared_pairing, shared_system};
@@ -11,18 +12,25 @@ ghost use Rattle.legality.specs.Violations.{edit_of, dependences, new_schedule, 
 use crate::systems::push_violation;
 use clay_commands::Edited;
 use dependence_systems::Dep;
-use elim_core::{ElimFail, Verdict, decide_by};
+use elim_core::{ElimFail, Reduced, Verdict, decide_with};
 use relation_core::Part;
 use row_core::{RowFail, SparseRow};
 use scop_core::Scop;
 use std::alloc::Global;
 use suite_base::{Fail, Refusal, Where};
 
-/// Whether a system has a rational point; refusals carry `number`.
-pub fn has_point(alloc: Global, system: &Part, number: u32) -> Result<bool, Fail>
+/// Whether a system that begins with the rows of a reduced one has a rational point; refusals carry
+/// `number`.
+pub fn has_point(
+    alloc: Global,
+    shared: &Reduced<SparseRow>,
+    system: &Part,
+    number: u32,
+) -> Result<bool, Fail>
+    requires { BeginsWith system.now shared.now }
     ensures { IsDecided system.now number result }
 {
-    match decide_by::<SparseRow>(alloc, system) {
+    match decide_with::<SparseRow>(alloc, shared, system) {
         Ok(Verdict::HasPoint) => Ok(true),
         Ok(Verdict::Empty(_)) => Ok(false),
         Err(ElimFail::Memory) => Err(Fail::Memory),
@@ -33,12 +41,13 @@ pub fn has_point(alloc: Global, system: &Part, number: u32) -> Result<bool, Fail
 
 /// Whether the system of the violation of `dep` at `level`, which is number `number`, has a rational
 /// point. `part` is the system of the dependence over the floors of the new schedules, and is so
-/// again afterwards.
+/// again afterwards; `shared` is that system reduced.
 pub fn decide_violation(
     alloc: Global,
     scop: &Scop,
     edited: &Edited,
     dep: &Dep,
+    shared: &Reduced<SparseRow>,
     part: &mut Part,
     level: usize,
     number: u32,
@@ -46,6 +55,7 @@ pub fn decide_violation(
     requires edit { IsEdit (edit_of scop.now edited.now) }
     requires listed { In dep.now (dependences (edit_of scop.now edited.now)) }
     requires shared { part.old ≡ shared_system (edit_of scop.now edited.now) dep.now }
+    requires reduced { shared.now ≡ shared_system (edit_of scop.now edited.now) dep.now }
     requires light { system_weight (shared_pairing (edit_of scop.now edited.now) dep.now) dep.now.level < 2 ^ 127 }
     requires level { IsLevel (new_schedule (edit_of scop.now edited.now) dep.now.target).betas (new_schedule (edit_of scop.now edited.now) dep.now.source).betas level }
     ensures kept { OnOk result (part.new ≡ part.old) }
@@ -59,7 +69,7 @@ pub fn decide_violation(
             return Err(Fail::Refused(Refusal::Overflow(Where::System, number)));
         }
     }
-    let point = has_point(alloc, part, number)?;
+    let point = has_point(alloc, shared, part, number)?;
     part.truncate(count);
     Ok(point)
 }
