@@ -61,10 +61,10 @@ differ_from (x ∷ ks) h =
     rw fresh (differ_from ks (λ i l.
     elim (x == entry_at ks i) as (λ t. (if t then 0 else place_of (entry_at ks i) ks + 1) ≡ suc i → place_of (entry_at ks i) ks ≡ i) [ true ↦ λ e. absurd (omega arith) | false ↦ λ e. omega arith ] (h (suc i) (omega arith))))
 
-differ_of_order : (d : ℕ) (ks : List ℕ) → Orders d ks → differ ks ≡ true
+pub differ_of_order : (d : ℕ) (ks : List ℕ) → Orders d ks → differ ks ≡ true
 differ_of_order d ks o = differ_from ks (λ i l. place_of_entry d ks o i (let e = o.long in omega arith))
 
-below_of_order : (d : ℕ) (ks : List ℕ) → Orders d ks → (k : ℕ) → In k ks → k < d
+pub below_of_order : (d : ℕ) (ks : List ℕ) → Orders d ks → (k : ℕ) → In k ks → k < d
 below_of_order d ks o k i =
     let l = place_below k ks i in
     let e = o.long in
@@ -72,7 +72,7 @@ below_of_order d ks o k i =
 
 -- rows that end apart
 
-places_of_leads : (rows : List (List ℤ)) → map (λ e. e.0) (leads rows) ≡ map last_place rows
+pub places_of_leads : (rows : List (List ℤ)) → map (λ e. e.0) (leads rows) ≡ map last_place rows
 places_of_leads [] = refl
 places_of_leads (row ∷ rows) = ap (λ t. last_place row ∷ t) (places_of_leads rows)
 
@@ -112,7 +112,7 @@ triangle_from d i (suc n) rows e l s all =
     let shape = ends_shape (row_ending_at i rows) i (pos 1) ends in
     (long, shape ∙ ap (λ m. take i (row_ending_at i rows) ++ pos 1 ∷ zeros (m - (i + 1))) long, triangle_from d (i + 1) n rows (omega arith) l s all)
 
-found : (rows : List (List ℤ)) (row : List ℤ) → differ (map last_place rows) ≡ true → In row rows → row_ending_at (last_place row) rows ≡ scale (last_value row) row
+pub found : (rows : List (List ℤ)) (row : List ℤ) → differ (map last_place rows) ≡ true → In row rows → row_ending_at (last_place row) rows ≡ scale (last_value row) row
 found [] row h i = absurd i
 found (r ∷ rows) row h (inl e) = subst (λ z. row_ending_at (last_place z) (r ∷ rows) ≡ scale (last_value z) z) e (rw (same_yes (last_place r)) refl)
 found (r ∷ rows) row h (inr i) =
@@ -134,7 +134,7 @@ product_of T (row ∷ rows) h =
     let b = product_of T rows (λ r i. h r (inr i)) in
     ap (λ z. z ∷ rows) (sym a) ∙ ap (λ t. scale (last_value row) (get_or T (last_place row) []) ∷ t) b
 
-sign_in : (rows : List (List ℤ)) (row : List ℤ) → AreSigned (leads rows) → In row rows → IsSign (last_value row)
+pub sign_in : (rows : List (List ℤ)) (row : List ℤ) → AreSigned (leads rows) → In row rows → IsSign (last_value row)
 sign_in [] row s i = absurd i
 sign_in (r ∷ rows) row (s, signs) (inl e) = subst (λ z. IsSign (last_value z)) e s
 sign_in (r ∷ rows) row (s, signs) (inr i) = sign_in rows row signs i

@@ -1,5 +1,5 @@
 -- The interchanges bring each row to the level that wants it.
-use Rattle.std.proofs.Common.{◌≡◌, ◌≢◌, ℤ, pos, ℕ, zero, suc, ◌+◌, ◌-◌, ◌<◌, ◌≤◌, ◌==◌, Bool, true, false, if◌then◌else◌, not, ◌&&◌, ◌||◌, ◌⊎◌, inl, inr, List, [], ◌∷◌, ◌++◌, length, map, get_or, set, refl, sym, ◌∙◌, ap, subst, arith, length-append, append_assoc}
+use Rattle.std.proofs.Common.{◌≡◌, ◌≢◌, ℤ, pos, ℕ, zero, suc, ◌+◌, ◌-◌, ◌<◌, ◌==◌, true, false, if◌then◌else◌, not, ◌⊎◌, inl, inr, List, [], ◌∷◌, ◌++◌, length, map, get_or, set, refl, sym, ◌∙◌, ap, subst, arith, length-append, append_assoc}
 use Rattle.std.specs.Prelude.{swap}
 use Rattle.std.specs.List.{list_any}
 use Rattle.std.proofs.Math.Dec.{eqb}
@@ -11,17 +11,16 @@ use Rattle.std.proofs.Math.Seq.{get_or-append_seam, set-append_seam, get_or-appe
 use Rattle.beta_tree.specs.Vectors.{In}
 use Rattle.beta_tree.specs.Edits.{place_of}
 use Rattle.beta_tree.proofs.Distinct.{member_from_In}
-use Rattle.beta_tree.proofs.Places.{bool_tells, same_yes, same_no}
+use Rattle.beta_tree.proofs.Places.{same_yes, same_no}
 use Rattle.beta_tree.proofs.Orders.{and_left, and_right, place_below}
 use Rattle.scop_core.specs.declared.affines.Affine.{Affine}
 use Rattle.scop_core.specs.declared.schedules.Schedule.{Schedule}
 use Rattle.clay_script.specs.declared.commands.Command.{Command}
 use Rattle.clay_script.specs.declared.commands.Command.TheVariants.{Interchange}
 use Rattle.clay_commands.specs.Arguments.{place}
-use Rattle.clay_commands.specs.Drafts.{forms_after, no_form}
 use Rattle.chlore_recover.specs.Triangles.{differ}
 use Rattle.chlore_recover.specs.LevelScripts.{interchanges}
-use Rattle.chlore_recover.specs.Runs.{at_levels, Suits, Runs}
+use Rattle.chlore_recover.specs.Runs.{at_levels, Runs}
 use Rattle.chlore_recover.proofs.Plains.{level_there}
 
 -- exchanges in a list

@@ -4,3 +4,7 @@ pub mod Factors
 pub mod Plains
 pub mod Reverses
 pub mod Interchanges
+pub mod Skews
+pub mod Triangulars
+pub mod Shifts
+pub mod Levels

@@ -1,23 +1,22 @@
 -- Single commands on levels.
-use Rattle.std.proofs.Common.{◌≡◌, ◌≢◌, ℤ, pos, negsuc, neg_ℤ, ◌+ℤ◌, ◌*ℤ◌, int_le, ℕ, zero, suc, ◌+◌, ◌-◌, ◌<◌, ◌≤◌, ◌^◌, ◌==◌, Bool, true, false, ◌&&◌, ◌⊎◌, inl, inr, List, [], ◌∷◌, ◌++◌, length, map, get_or, set, refl, sym, ◌∙◌, ap, subst, arith, length-append, append_assoc}
+use Rattle.std.proofs.Common.{◌≡◌, ℤ, pos, negsuc, neg_ℤ, ◌*ℤ◌, int_le, ℕ, zero, suc, ◌+◌, ◌<◌, ◌≤◌, true, inl, inr, List, [], ◌∷◌, ◌++◌, length, map, refl, sym, ◌∙◌, ap, subst, arith, length-append}
 use Rattle.std.specs.Prelude.{slice_set}
-use Rattle.std.specs.Ordering.{int_eq}
 use Rattle.std.proofs.lemmas.Int.{ints}
 use Rattle.std.proofs.Math.Seq.{get_or-append_seam, set-append_seam}
 use Rattle.beta_tree.proofs.Places.{bool_tells}
-use Rattle.row_core.specs.Rows.{scale, add_rows}
+use Rattle.row_core.specs.Rows.{scale}
 use Rattle.scop_core.specs.declared.affines.Affine.{Affine}
 use Rattle.scop_core.specs.declared.schedules.Schedule.{Schedule}
-use Rattle.scop_core.specs.SolvedRows.{zeros, unit}
-use Rattle.scop_core.specs.AffineSums.{negative, plus_multiple, moved}
+use Rattle.scop_core.specs.SolvedRows.{zeros}
+use Rattle.scop_core.specs.AffineSums.{negative}
 use Rattle.clay_script.specs.declared.commands.Command.{Command}
-use Rattle.clay_script.specs.declared.commands.Command.TheVariants.{Interchange, Skew, Shift, Reverse}
+use Rattle.clay_script.specs.declared.commands.Command.TheVariants.{Reverse}
 use Rattle.clay_commands.specs.Arguments.{place}
 use Rattle.clay_commands.specs.Drafts.{no_form, form_at, forms_after}
-use Rattle.chlore_recover.specs.Triangles.{IsSign, is_zero, last_value}
-use Rattle.chlore_recover.specs.Recoverable.{plain, rows_of, AreClansFrom}
-use Rattle.chlore_recover.specs.LevelScripts.{reverse_where, first_reverses}
-use Rattle.chlore_recover.specs.Runs.{at_levels, is_level, Suits, Runs}
+use Rattle.chlore_recover.specs.Triangles.{IsSign}
+use Rattle.chlore_recover.specs.Recoverable.{plain}
+use Rattle.chlore_recover.specs.LevelScripts.{reverse_where}
+use Rattle.chlore_recover.specs.Runs.{at_levels, is_level, Runs}
 
 pub runs_append : (n : ℕ) (cs ds : List Command) (a b e : Schedule) → Runs n cs a b → Runs n ds b e → Runs n (cs ++ ds) a e
 runs_append n [] ds a b e r s = subst (λ z. Runs n ds z e) (sym r) s

@@ -1,24 +1,23 @@
 -- The first reverses make iterators of Clan's levels, the second ones give the triangle's rows their signs.
-use Rattle.std.proofs.Common.{◌≡◌, ◌≢◌, ℤ, pos, negsuc, ◌*ℤ◌, ℕ, zero, suc, ◌+◌, ◌-◌, ◌<◌, ◌≤◌, List, [], ◌∷◌, ◌++◌, length, map, refl, sym, ◌∙◌, ap, subst, arith, length-append, append_assoc}
+use Rattle.std.proofs.Common.{◌≡◌, ℤ, pos, ◌*ℤ◌, ℕ, zero, suc, ◌+◌, ◌-◌, ◌<◌, List, [], ◌∷◌, ◌++◌, length, map, refl, sym, ◌∙◌, ap, subst, arith, length-append, append_assoc}
 use Rattle.std.specs.List.{range_with_len}
-use Rattle.std.proofs.lemmas.Int.{ints}
 use Rattle.std.proofs.Math.IntN.{*ℤ-zero}
 use Rattle.row_core.specs.Rows.{scale}
 use Rattle.scop_core.specs.declared.affines.Affine.{Affine}
 use Rattle.scop_core.specs.declared.schedules.Schedule.{Schedule}
 use Rattle.scop_core.specs.SolvedRows.{zeros, unit}
-use Rattle.chlore_recover.specs.Triangles.{IsSign, is_zero, last_value, row_ending_at, sign_at}
+use Rattle.chlore_recover.specs.Triangles.{IsSign, last_value, row_ending_at, sign_at}
 use Rattle.chlore_recover.specs.Recoverable.{plain, rows_of, AreClansFrom}
 use Rattle.chlore_recover.specs.LevelScripts.{reverse_where, first_reverses, second_reverses}
 use Rattle.chlore_recover.specs.Runs.{at_levels, Runs}
 use Rattle.chlore_recover.proofs.Ends.{EndsAt, ends_last, sign_some, sign_square, zeros_zero}
 use Rattle.chlore_recover.proofs.Plains.{runs_append, reverse_where_runs}
 
-scale_zeros : (g : ℤ) (n : ℕ) → scale g (zeros n) ≡ zeros n
+pub scale_zeros : (g : ℤ) (n : ℕ) → scale g (zeros n) ≡ zeros n
 scale_zeros g zero = refl
 scale_zeros g (suc n) = ap (λ z. z ∷ scale g (zeros n)) (*ℤ-zero g) ∙ ap (λ r. pos 0 ∷ r) (scale_zeros g n)
 
-scale_behind : (g z : ℤ) (k m : ℕ) → scale g (zeros k ++ z ∷ zeros m) ≡ zeros k ++ (g *ℤ z) ∷ zeros m
+pub scale_behind : (g z : ℤ) (k m : ℕ) → scale g (zeros k ++ z ∷ zeros m) ≡ zeros k ++ (g *ℤ z) ∷ zeros m
 scale_behind g z zero m = ap (λ r. (g *ℤ z) ∷ r) (scale_zeros g m)
 scale_behind g z (suc k) m = ap (λ y. y ∷ scale g (zeros k ++ z ∷ zeros m)) (*ℤ-zero g) ∙ ap (λ r. pos 0 ∷ r) (scale_behind g z k m)
 

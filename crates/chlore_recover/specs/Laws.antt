@@ -1,7 +1,11 @@
 -- What holds of recoverable levels and of the script for one statement.
-use Rattle.std.specs.Prelude.{◌≡◌, ℤ, ℕ, true, List}
+use Rattle.std.specs.Prelude.{◌≡◌, ℤ, ℕ, true, List, length}
 use Rattle.chlore_recover.specs.Triangles.{Signed, IsFactored, AreLong, leads}
-use Rattle.chlore_recover.specs.Recoverable.{ends_apart, triangle_of}
+use Rattle.scop_core.specs.declared.affines.Affine.{Affine}
+use Rattle.scop_core.specs.declared.schedules.Schedule.{Schedule}
+use Rattle.chlore_recover.specs.Recoverable.{ends_apart, triangle_of, rows_of, AreClansFrom}
+use Rattle.chlore_recover.specs.LevelScripts.{level_script}
+use Rattle.chlore_recover.specs.Runs.{at_levels, Runs, AllSmall, AreForms}
 
 -- d rows of d entries that end apart are a signed permutation, their leads, times a unit lower triangle
 abbrev pub ApartIsFactored : Type 0
@@ -10,3 +14,11 @@ ApartIsFactored = (d : ℕ) (rows : List (List ℤ)) → AreLong d rows → ends
 -- the rows of a signed permutation times a unit lower triangle end apart, and both are determined
 abbrev pub FactoredIsApart : Type 0
 FactoredIsApart = (d : ℕ) (P : Signed) (L rows : List (List ℤ)) → IsFactored d P L rows → (ends_apart d rows ≡ true) × (P ≡ leads rows) × (L ≡ triangle_of d rows)
+
+-- the script for levels in Clan's form and recoverable ones with coefficients in range runs from the first to the second, under
+-- any prefix
+abbrev pub ScriptRecoversLevels : Type 0
+ScriptRecoversLevels =
+    (parameters : ℕ) (p : List ℤ) (schedule : Schedule) (original target : List Affine) (P : Signed) (L : List (List ℤ))
+    → AreClansFrom parameters 0 (length target) original → IsFactored (length target) P L (rows_of target) → AllSmall (rows_of target) → AreForms parameters target
+    → Runs parameters (level_script p original target) (at_levels schedule original) (at_levels schedule target)

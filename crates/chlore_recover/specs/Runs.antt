@@ -1,5 +1,5 @@
 -- Commands on one statement's levels that are not refused for it.
-use Rattle.std.specs.Prelude.{◌≡◌, ◌<◌, ◌^◌, ℤ, pos, int_le, ℕ, Bool, true, false, ◌&&◌, List, [], ◌∷◌, length}
+use Rattle.std.specs.Prelude.{◌≡◌, ◌<◌, ◌^◌, ℤ, pos, int_le, ℕ, Bool, true, false, ◌&&◌, List, [], ◌∷◌, length, unsigned_abs}
 use Rattle.std.specs.Ordering.{int_eq}
 use Rattle.scop_core.specs.declared.affines.Affine.{Affine}
 use Rattle.scop_core.specs.declared.schedules.Schedule.{Schedule}
@@ -31,3 +31,19 @@ Suits parameters other levels = ⊥
 abbrev pub Runs : ℕ → List Command → Schedule → Schedule → Type 0
 Runs parameters [] a b = a ≡ b
 Runs parameters (command ∷ commands) a b = Suits parameters command a.levels × Runs parameters commands (forms_after command a) b
+
+-- each entry is a coefficient
+abbrev pub Small : List ℤ → Type 0
+Small [] = Unit {0}
+Small (z ∷ row) = (unsigned_abs z < 2 ^ 127) × Small row
+
+-- each row is small
+abbrev pub AllSmall : List (List ℤ) → Type 0
+AllSmall [] = Unit {0}
+AllSmall (row ∷ rows) = Small row × AllSmall rows
+
+-- target levels over so many parameters, without floors, whose parameters' coefficients and constants are coefficients
+abbrev pub AreForms : ℕ → List Affine → Type 0
+AreForms n [] = Unit {0}
+AreForms n (form ∷ levels) =
+    ((form.floors ≡ []) × (length form.parameters ≡ n) × Small form.parameters × (unsigned_abs form.constant < 2 ^ 127)) × AreForms n levels

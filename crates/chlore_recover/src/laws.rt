@@ -1,6 +1,6 @@
 //! Laws of recoverable levels, each as the contract of a function that does nothing.
 
-ghost use Rattle.chlore_recover.specs.Laws.{ApartIsFactored, FactoredIsApart};
+ghost use Rattle.chlore_recover.specs.Laws.{ApartIsFactored, FactoredIsApart, ScriptRecoversLevels};
 
 /// Rows whose last coefficients are signs at places that differ are a signed permutation times a unit lower triangle.
 pub fn apart_is_factored()
@@ -10,4 +10,9 @@ pub fn apart_is_factored()
 /// Such a product has such rows, and both factors are determined.
 pub fn factored_is_apart()
     ensures { FactoredIsApart }
+{}
+
+/// The script for one statement's levels runs from Clan's form to the target's levels; no command is refused.
+pub fn script_recovers_levels()
+    ensures { ScriptRecoversLevels }
 {}
