@@ -1,4 +1,5 @@
 mod Checks
+mod Scripts
 pub mod Ends
 pub mod Factors
 pub mod Plains
@@ -8,3 +9,4 @@ pub mod Skews
 pub mod Triangulars
 pub mod Shifts
 pub mod Levels
+pub mod Ranges

@@ -3,4 +3,5 @@ pub mod Triangles
 pub mod Recoverable
 pub mod LevelScripts
 pub mod Runs
+pub mod Strategy
 pub mod Laws

@@ -1,0 +1,8 @@
+-- Rows whose entries are coefficients.
+use Rattle.std.proofs.Common.{ℤ, pos, unsigned_abs, ℕ, suc, ◌<◌, ◌^◌, List, [], ◌∷◌}
+use Rattle.row_core.specs.Rows.{entry, AreCoefficients}
+use Rattle.chlore_recover.specs.Runs.{Small}
+
+pub small_of_coefficients : (row : List ℤ) → AreCoefficients row → Small row
+small_of_coefficients [] c = tt
+small_of_coefficients (z ∷ row) c = (c.bound 0, small_of_coefficients row (record { bound = λ k. c.bound (suc k) }))
