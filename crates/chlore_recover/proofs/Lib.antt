@@ -10,3 +10,4 @@ pub mod Triangulars
 pub mod Shifts
 pub mod Levels
 pub mod Ranges
+pub mod Unrefused

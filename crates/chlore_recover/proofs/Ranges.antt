@@ -1,6 +1,6 @@
 -- Rows whose entries are coefficients.
-use Rattle.std.proofs.Common.{ℤ, pos, unsigned_abs, ℕ, suc, ◌<◌, ◌^◌, List, [], ◌∷◌}
-use Rattle.row_core.specs.Rows.{entry, AreCoefficients}
+use Rattle.std.proofs.Common.{ℤ, suc, List, [], ◌∷◌}
+use Rattle.row_core.specs.Rows.{AreCoefficients}
 use Rattle.chlore_recover.specs.Runs.{Small}
 
 pub small_of_coefficients : (row : List ℤ) → AreCoefficients row → Small row

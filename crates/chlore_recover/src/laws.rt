@@ -1,6 +1,6 @@
 //! Laws of recoverable levels, each as the contract of a function that does nothing.
 
-ghost use Rattle.chlore_recover.specs.Laws.{ApartIsFactored, FactoredIsApart, ScriptRecoversLevels};
+ghost use Rattle.chlore_recover.specs.Laws.{ApartIsFactored, FactoredIsApart, ScriptRecoversLevels, SuitedIsUnrefused};
 
 /// Rows whose last coefficients are signs at places that differ are a signed permutation times a unit lower triangle.
 pub fn apart_is_factored()
@@ -15,4 +15,9 @@ pub fn factored_is_apart()
 /// The script for one statement's levels runs from Clan's form to the target's levels; no command is refused.
 pub fn script_recovers_levels()
     ensures { ScriptRecoversLevels }
+{}
+
+/// A command that suits the levels of each statement under its prefix is not refused.
+pub fn suited_is_unrefused()
+    ensures { SuitedIsUnrefused }
 {}

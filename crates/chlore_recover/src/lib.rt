@@ -3,4 +3,4 @@
 
 mod laws;
 
-pub use laws::{apart_is_factored, factored_is_apart, script_recovers_levels};
+pub use laws::{apart_is_factored, factored_is_apart, script_recovers_levels, suited_is_unrefused};
