@@ -4,4 +4,5 @@ pub mod Sorted
 pub mod Dense
 pub mod Parted
 pub mod Boundaries
+pub mod Firsts
 pub mod Ranked

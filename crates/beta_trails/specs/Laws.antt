@@ -3,7 +3,7 @@ use Rattle.std.specs.Prelude.{◌≡◌, ℕ, ◌+◌, ◌-◌, ◌<◌, ◌^◌
 use Rattle.beta_tree.specs.Vectors.{IsTree}
 use Rattle.beta_tree.specs.Answers.{fission_answer, fuse_answer, reorder_answer}
 use Rattle.beta_tree.specs.Edits.{is_permutation_of, place_of}
-use Rattle.beta_trails.specs.Trails.{Step, zeros, entry, trail, trail_end, steps_from, Agreeing, Rising, ranked}
+use Rattle.beta_trails.specs.Trails.{Step, zeros, entry, trail, trail_end, steps_from, Agreeing, AllBelow, Rising, ranked}
 
 -- a tree's vectors in rising order are the trail of their agreements and lengths
 abbrev pub SortedTreeIsTrail : Type 0
@@ -51,3 +51,7 @@ abbrev pub ReorderPlaces : Type 0
 ReorderPlaces =
     (order : List ℕ) (lengths : List ℕ) → 0 < length lengths → is_permutation_of (length lengths) order ≡ true
     → reorder_answer [] order (ranked 0 lengths) ≡ Ok (placed_from 0 order lengths)
+
+-- where all neighbours before agree in fewer entries, the loop is parted at its child 1
+abbrev pub FirstIsPartedAtOne : Type 0
+FirstIsPartedAtOne = (m n : ℕ) (before : List Step) → Agreeing m before → AllBelow n before → parted_child m n before ≡ 1

@@ -55,3 +55,8 @@ Rising v (w ∷ V) = Before v w × Rising w V
 abbrev pub ranked : ℕ → List ℕ → List (List ℕ)
 ranked r [] = []
 ranked r (l ∷ lengths) = (r ∷ zeros (l - 1)) ∷ ranked (r + 1) lengths
+
+-- each agreement is below n
+abbrev pub AllBelow : ℕ → List Step → Type 0
+AllBelow n [] = Unit {0}
+AllBelow n ((a, l) ∷ more) = (a < n) × AllBelow n more

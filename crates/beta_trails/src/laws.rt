@@ -1,6 +1,6 @@
 //! Laws of trails, each as the contract of a function that does nothing.
 
-ghost use Rattle.beta_trails.specs.Laws.{ApartIsRanked, FissionParts, FuseJoins, ReorderPlaces, SortedTreeAgrees, SortedTreeIsTrail, TrailIsTree};
+ghost use Rattle.beta_trails.specs.Laws.{ApartIsRanked, FirstIsPartedAtOne, FissionParts, FuseJoins, ReorderPlaces, SortedTreeAgrees, SortedTreeIsTrail, TrailIsTree};
 
 /// A tree's vectors in rising order are the trail of their agreements and lengths.
 pub fn sorted_tree_is_trail()
@@ -35,4 +35,9 @@ pub fn apart_is_ranked()
 /// A reorder of all gives each vector its rank's place in the order.
 pub fn reorder_places()
     ensures { ReorderPlaces }
+{}
+
+/// The first loop with so many entries in common is parted at its child 1.
+pub fn first_is_parted_at_one()
+    ensures { FirstIsPartedAtOne }
 {}

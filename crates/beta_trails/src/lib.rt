@@ -4,6 +4,6 @@
 mod laws;
 
 pub use laws::{
-    apart_is_ranked, fission_parts, fuse_joins, reorder_places, sorted_tree_agrees,
-    sorted_tree_is_trail, trail_is_tree,
+    apart_is_ranked, first_is_parted_at_one, fission_parts, fuse_joins, reorder_places,
+    sorted_tree_agrees, sorted_tree_is_trail, trail_is_tree,
 };
