@@ -9,3 +9,4 @@ pub mod AuditLengths
 pub mod ScopTexts
 pub mod FileLists
 pub mod RunAnswers
+pub mod ClayScripts

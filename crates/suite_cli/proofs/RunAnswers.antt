@@ -1,10 +1,10 @@
 -- What a run tells is what its outcome asks.
-use Rattle.std.proofs.Common.{◌≡◌, ◌⊎◌, inl, inr, ℕ, ◌<◌, ◌≤◌, List, [], ◌∷◌, ◌++◌, Option, Some, None, IfSome, IsSomeAnd, Result, Ok, Err, OnOk, OnErr, length, refl, ap, sym, ◌∙◌, subst, arith}
+use Rattle.std.proofs.Common.{◌≡◌, ◌⊎◌, inl, inr, ℕ, ◌<◌, ◌≤◌, ◌+◌, ◌^◌, List, [], ◌∷◌, ◌++◌, Option, Some, None, IfSome, IsSomeAnd, Result, Ok, Err, OnOk, OnErr, length, refl, ap, sym, ◌∙◌, subst, arith}
 use Rattle.std.proofs.lemmas.List.{append-nil}
 use Rattle.suite_base.specs.Outside.{IsMissing, Under, Wrote, WrotePart}
-use Rattle.suite_base.specs.Limits.{max_input}
+use Rattle.suite_base.specs.Limits.{max_commands, max_input, max_stage_rows}
 use Rattle.suite_base.specs.declared.refusals.Refusal.{Refusal}
-use Rattle.suite_base.specs.declared.refusals.Refusal.TheVariants.{NoRegion, OutsideFirstPath, TooLong}
+use Rattle.suite_base.specs.declared.refusals.Refusal.TheVariants.{NoRegion, OutsideFirstPath, TooLong, Illegal, Limit, Overflow, TooManyRows}
 use Rattle.scop_core.specs.ScopData.{ScopData}
 use Rattle.scop_core.specs.Layouts.{layout}
 use Rattle.scop_core.specs.Validity.{IsValid}
@@ -17,6 +17,16 @@ use Rattle.dependence_systems.specs.Entries.{entries}
 use Rattle.dependence_audit.specs.declared.audits.Counts.{Counts}
 use Rattle.dependence_audit.specs.Audits.{audited}
 use Rattle.dependence_audit.proofs.Sound.{blocks_are_sound}
+use Rattle.clay_script.specs.declared.commands.Command.{Command as ScriptCommand}
+use Rattle.clay_commands.specs.Afters.{after_script, refusal_of}
+use Rattle.clay_commands.specs.declared.edited.Edited.{Edited}
+use Rattle.scop_core.proofs.KeptLimits.{keeps_limits}
+use Rattle.legality.specs.Violations.{Edit, Violation, edit_of, violation_peak}
+use Rattle.legality.specs.Answers as legal
+use Rattle.legality.specs.Answers.{IsAccepted, IsNone}
+use Rattle.legality.specs.Memories.{KeepsMemory}
+use Rattle.edit_laws.proofs.Unrefused.{unrefused_scripts_are_formed}
+use Rattle.edit_laws.proofs.Brought.{scripts_bring_instances}
 use Rattle.candl_deps.specs.Decisions.{IsDecidable, IsRefusal, WithDependences}
 use Rattle.candl_deps.proofs.Kept.{right_is_sound}
 use Rattle.dependence_blocks.proofs.Kept.{kept_hold_conflicts}
@@ -29,14 +39,17 @@ use Rattle.suite_cli.specs.AuditPromise as audit
 use Rattle.suite_cli.specs.CandlPromise as candl
 use Rattle.suite_cli.specs.ClanPromise as clan
 use Rattle.suite_cli.specs.ClanPromise.{IsLoopText, scop_of}
-use Rattle.suite_cli.specs.Commands.{Command, Audit, Candl, Clan, Scop, Words, files_of}
+use Rattle.suite_cli.specs.ClayPromise as clay
+use Rattle.suite_cli.specs.ClayPromise.{AreClear, IsClear, IsScriptRefused, IsScriptText, IsStopped, edited}
+use Rattle.suite_cli.specs.Commands.{Command, Audit, Candl, Clan, Clay, Scop, Words, files_of}
 use Rattle.suite_cli.specs.FirstForm.{AreWords, IsFirstForm, IsHead, IsAssignment, LoopWords, content_lines, frame_of, loop_of}
 use Rattle.suite_cli.specs.Messages.{message}
-use Rattle.suite_cli.specs.Promises.{OfOne, Refuses, StopCause, Takes}
+use Rattle.suite_cli.specs.Promises.{OfOne, OfTwo, Refuses, StopCause, Takes}
 use Rattle.suite_cli.specs.Reads.{AreRead, AreReadable, FaultCause, HasReadFault, Holds, IsLong, IsReadFaulty, IsReadable, IsTooLong, Named, StopsAt, Tells}
 use Rattle.suite_cli.specs.ScopPromise as scop
 use Rattle.suite_cli.specs.Worlds.{Inputs, IsUnwritten, IsWriteFaulty, Output, World}
 use Rattle.suite_cli.proofs.AuditLengths.{audit_says_no_length}
+use Rattle.suite_cli.proofs.ClayScripts.{fault_is_no_length, one_script, script_has_no_fault, script_says_no_length}
 use Rattle.suite_cli.proofs.ScopTexts.{text_has_no_fault}
 use Rattle.suite_cli.proofs.WordLists.{one_command}
 
@@ -100,6 +113,23 @@ audits text output S counts t valid passes e = record {
   says = blocks_are_sound S valid counts passes;
   line = e;
 }
+
+-- the layout of a SCoP after a script that keeps its memory
+pub edits : (output : List ℕ) (S : ScopData) (script : List ScriptCommand) (made : Edited) → IsValid S → refusal_of S script ≡ None → made ≡ after_script S script
+    → length script ≤ max_commands → IsValid made.scop → IsAccepted (edit_of S made) → KeepsMemory S made.scop → output ≡ layout made.scop
+    → clay.IsEditedText S script output
+edits output S script made valid unrefused same few made_valid accepted memory e =
+    let formed = unrefused_scripts_are_formed S script unrefused in
+    let statements : length S.statements ≤ 1024 = (keeps_limits S valid).statements in
+    let room : length S.statements + length script < 2 ^ 32 = omega (arith, statements, few) in
+    record {
+      unrefused = unrefused;
+      accepted = subst (λ (m : Edited). IsAccepted (edit_of S m)) same accepted;
+      stamps = λ n sized. scripts_bring_instances S script valid formed room n sized;
+      memory = subst (λ (m : Edited). KeepsMemory S m.scop) same memory;
+      layout_is = e ∙ ap (λ (m : Edited). layout m.scop) same;
+      stands = subst (λ (m : Edited). IsScopText output m.scop) same (stands output made.scop made_valid e);
+    }
 
 -- ---- what is told
 
@@ -191,11 +221,51 @@ no_audit_refusal text S counts refusal t passes (inr h) =
     let refused : audited S ≡ Err refusal = subst (λ (T : ScopData). audited T ≡ Err refusal) same h.2 in
     absurd (cc)
 
+clear_at : (E : Edit) (before : List Violation) (v : Violation) (behind : List Violation) → AreClear E (before ++ v ∷ behind)
+    → IsNone E v × ((violation_peak E v).weight < 2 ^ 127) × ((violation_peak E v).rows ≤ max_stage_rows)
+clear_at E [] v behind h = (h.0, h.1, h.2)
+clear_at E (x ∷ before) v behind h = clear_at E before v behind h.3
+
+clear_where : (E : Edit) (k : ℕ) (P : Violation → Type 0) → IsClear E → (s : legal.StopsAt E k P)
+    → IsNone E s.violation × ((violation_peak E s.violation).weight < 2 ^ 127) × ((violation_peak E s.violation).rows ≤ max_stage_rows)
+clear_where E k P clear s = clear_at E s.before s.violation s.behind (subst (AreClear E) s.split clear.clear)
+
+-- a clear edit is not refused
+no_stop : (E : Edit) (refusal : Refusal) → IsClear E → ¬ IsStopped E refusal
+no_stop E (Illegal k) clear h =
+    let v = clear_where E k _ clear h.first in
+    v.0.no_point h.first.holds.1.at h.first.holds.1.factor h.first.holds.1.length_is h.first.holds.1.point
+no_stop E (Limit which k) clear h = let few = clear.few in let many = h.2 in omega arith
+no_stop E (Overflow what k) clear h = let v = clear_where E k _ clear h.2 in let light = v.1 in let heavy = h.2.holds in omega arith
+no_stop E (TooManyRows k) clear h = let v = clear_where E k _ clear h.1 in let few = v.2 in let many = h.1.holds.1 in omega arith
+no_stop E refusal clear h = absurd h
+
+not_together : (S : ScopData) (script : List ScriptCommand) (refusal : Refusal) → refusal_of S script ≡ None → IsClear (edited S script) → ¬ IsScriptRefused S script refusal
+not_together S script refusal unrefused clear (inl h) = absurd (cc)
+not_together S script refusal unrefused clear (inr h) = no_stop (edited S script) refusal clear h.stopped
+
+no_clay_refusal : (first second : List ℕ) (place : ℕ) (refusal : Refusal) → clay.Takes first second → ¬ clay.Refuses first second place refusal
+no_clay_refusal first second place refusal t (inl h) = script_has_no_fault first t.script refusal t.texts.script_text.text_is t.texts.script_text.few h.1
+no_clay_refusal first second place refusal t (inr (inl h)) = no_scop_refusal second t.scop refusal t.texts.scop_text h.1.fault_is
+no_clay_refusal first second place refusal t (inr (inr h)) =
+    let r = h.1 in
+    let same_script : r.script ≡ t.script = one_script first r.script t.script r.texts.script_text.few t.texts.script_text.few r.texts.script_text.text_is t.texts.script_text.text_is in
+    let same_scop : r.scop ≡ t.scop = stands_for_one_law second r.scop t.scop r.texts.scop_text t.texts.scop_text in
+    let refused : IsScriptRefused t.scop t.script refusal =
+    subst (λ S. IsScriptRefused S t.script refusal) same_scop (subst (λ c. IsScriptRefused r.scop c refusal) same_script r.refused) in
+    not_together t.scop t.script refusal t.unrefused t.clear refused
+
 -- what one text excludes, a list of one does
 one_excludes : (P Q : List ℕ → Type 0) → ((text : List ℕ) → P text → ¬ Q text) → (texts : List (List ℕ)) → OfOne P texts → ¬ OfOne Q texts
 one_excludes P Q none [] p q = p
 one_excludes P Q none (text ∷ []) p q = none text p q
 one_excludes P Q none (text ∷ (more ∷ texts)) p q = p
+
+two_exclude : (P Q : List ℕ → List ℕ → Type 0) → ((first second : List ℕ) → P first second → ¬ Q first second) → (texts : List (List ℕ)) → OfTwo P texts → ¬ OfTwo Q texts
+two_exclude P Q none [] p q = p
+two_exclude P Q none (a ∷ []) p q = p
+two_exclude P Q none (a ∷ (b ∷ [])) p q = none a b p q
+two_exclude P Q none (a ∷ (b ∷ (more ∷ texts))) p q = p
 
 -- texts that a command takes are not refused
 not_refused : (command : Command) (texts : List (List ℕ)) (place : ℕ) (refusal : Refusal) → Takes command texts → ¬ Refuses command texts place refusal
@@ -203,6 +273,8 @@ not_refused (Clan file) texts place refusal t h = one_excludes clan.Takes (λ te
 not_refused (Scop file) texts place refusal t h = one_excludes scop.Takes (λ text. scop.Refuses text refusal) (λ text p. no_scop_refusal text p.0 refusal p.1) texts t h.1
 not_refused (Candl file) texts place refusal t h = one_excludes candl.Takes (λ text. candl.Refuses text refusal) (λ text p. no_candl_refusal text p.0 refusal p.1 p.2) texts t h.1
 not_refused (Audit file) texts place refusal t h = one_excludes audit.Takes (λ text. audit.Refuses text refusal) (λ text p. no_audit_refusal text p.0 p.1 refusal p.2 p.3) texts t h.1
+not_refused (Clay script file) texts place refusal t h =
+    two_exclude clay.Takes (λ first second. clay.Refuses first second place refusal) (λ first second. no_clay_refusal first second place refusal) texts t h
 
 -- what no text has, no list of one has
 none_of_one : (P : List ℕ → Type 0) → ((text : List ℕ) → ¬ P text) → (texts : List (List ℕ)) → ¬ OfOne P texts
@@ -214,6 +286,21 @@ candl_not_too_long : (text : List ℕ) → ¬ candl.Refuses text TooLong
 candl_not_too_long text (inl h) = fault_is_not_too_long_law text h
 candl_not_too_long text (inr h) = h.2
 
+none_of_two : (P : List ℕ → List ℕ → Type 0) → ((first second : List ℕ) → ¬ P first second) → (texts : List (List ℕ)) → ¬ OfTwo P texts
+none_of_two P none [] h = h
+none_of_two P none (a ∷ []) h = h
+none_of_two P none (a ∷ (b ∷ [])) h = none a b h
+none_of_two P none (a ∷ (b ∷ (more ∷ texts))) h = h
+
+script_not_too_long : (S : ScopData) (script : List ScriptCommand) → ¬ IsScriptRefused S script TooLong
+script_not_too_long S script (inl h) = script_says_no_length S script h
+script_not_too_long S script (inr h) = h.stopped
+
+clay_not_too_long : (first second : List ℕ) (place : ℕ) → ¬ clay.Refuses first second place TooLong
+clay_not_too_long first second place (inl h) = fault_is_no_length first h.1
+clay_not_too_long first second place (inr (inl h)) = fault_is_not_too_long_law second h.1.fault_is
+clay_not_too_long first second place (inr (inr h)) = script_not_too_long h.1.scop h.1.script h.1.refused
+
 audit_not_too_long : (text : List ℕ) → ¬ audit.Refuses text TooLong
 audit_not_too_long text (inl h) = fault_is_not_too_long_law text h
 audit_not_too_long text (inr h) = audit_says_no_length h.0 h.2
@@ -224,6 +311,7 @@ never_long (Clan file) texts place h = none_of_one (λ text. clan.Refuses text T
 never_long (Scop file) texts place h = none_of_one (λ text. scop.Refuses text TooLong) fault_is_not_too_long_law texts h.1
 never_long (Candl file) texts place h = none_of_one (λ text. candl.Refuses text TooLong) candl_not_too_long texts h.1
 never_long (Audit file) texts place h = none_of_one (λ text. audit.Refuses text TooLong) audit_not_too_long texts h.1
+never_long (Clay script file) texts place h = none_of_two (λ first second. clay.Refuses first second place TooLong) (λ first second. clay_not_too_long first second place) texts h
 
 cause_unless_long : (command : Command) (before now : Inputs) (place : ℕ) (refusal : Refusal) → ¬ (refusal ≡ TooLong) → IsRefused command before now place refusal → RefusalCause command before now place refusal
 cause_unless_long command before now place TooLong other h = absurd (other refl)

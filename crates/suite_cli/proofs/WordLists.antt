@@ -2,7 +2,7 @@ use Rattle.std.proofs.Common.{◌≡◌, ℕ, ◌+◌, ◌≤◌, Bool, List, []
 use Rattle.std.specs.Prelude.{codes}
 use Rattle.std.specs.Str.{bytes_eq}
 use Rattle.std.proofs.lemmas.List.Elements.{All-cons, All-nil}
-use Rattle.suite_cli.specs.Commands.{AreFileWords, Command, Audit, Candl, Clan, Scop, Words, is_file_word, is_input, words_of}
+use Rattle.suite_cli.specs.Commands.{AreFileWords, Command, Audit, Candl, Clan, Clay, Scop, Words, is_file_word, is_input, words_of}
 
 some_is : (xs ys : List ℕ) → Some xs ≡ Some ys → xs ≡ ys
 some_is xs ys e = cc
@@ -13,6 +13,13 @@ two_words [] a b l e f = absurd (omega arith)
 two_words (x ∷ []) a b l e f = absurd (omega arith)
 two_words (x ∷ (y ∷ [])) a b l e f = let p : x ≡ a = some_is x a e in let q : y ≡ b = some_is y b f in cc
 two_words (x ∷ (y ∷ (z ∷ more))) a b l e f = absurd (omega arith)
+
+pub three_words : (ws : List (List ℕ)) (a b d : List ℕ) → length ws ≡ 3 → slice_get ws 0 ≡ Some a → slice_get ws 1 ≡ Some b → slice_get ws 2 ≡ Some d → ws ≡ a ∷ (b ∷ (d ∷ []))
+three_words [] a b d l e f g = absurd (omega arith)
+three_words (x ∷ []) a b d l e f g = absurd (omega arith)
+three_words (x ∷ (y ∷ [])) a b d l e f g = absurd (omega arith)
+three_words (x ∷ (y ∷ (z ∷ []))) a b d l e f g = let p : x ≡ a = some_is x a e in let q : y ≡ b = some_is y b f in let r : z ≡ d = some_is z d g in cc
+three_words (x ∷ (y ∷ (z ∷ (w ∷ more)))) a b d l e f g = absurd (omega arith)
 
 -- a word that names a file is one file word
 count_one : (b : Bool) → 0 + cond b 1 0 ≤ 1
@@ -28,6 +35,7 @@ one_file file e = record {
 -- the command that words are
 command_in : List (List ℕ) → Option Command
 command_in (name ∷ (file ∷ [])) = if bytes_eq name (codes "clan") then Some (Clan file) else if bytes_eq name (codes "scop") then Some (Scop file) else if bytes_eq name (codes "candl") then Some (Candl file) else if bytes_eq name (codes "audit") then Some (Audit file) else None
+command_in (name ∷ (first ∷ (second ∷ []))) = if bytes_eq name (codes "clay") then Some (Clay first second) else None
 command_in words = None
 
 read_back : (command : Command) → command_in (words_of command) ≡ Some command
@@ -36,6 +44,7 @@ read_back (Clan file) = refl
 read_back (Scop file) = refl
 read_back (Candl file) = refl
 read_back (Audit file) = refl
+read_back (Clay script file) = refl
 
 some_command : (a b : Command) → Some a ≡ Some b → a ≡ b
 some_command a b e = cc

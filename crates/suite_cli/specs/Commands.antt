@@ -11,6 +11,7 @@ pub data Command : Type 0 where
   Scop : (file : List ℕ) → Command
   Candl : (file : List ℕ) → Command
   Audit : (file : List ℕ) → Command
+  Clay : (script file : List ℕ) → Command
 
 -- the command that a work is
 abbrev pub command_of : Work → Command
@@ -18,6 +19,7 @@ command_of (work.Clan file) = Clan file.now
 command_of (work.Scop file) = Scop file.now
 command_of (work.Candl file) = Candl file.now
 command_of (work.Audit file) = Audit file.now
+command_of (work.Clay script file) = Clay script.now file.now
 
 -- the words of the files that a command reads, in their order
 abbrev pub files_of : Command → List (List ℕ)
@@ -25,6 +27,7 @@ files_of (Clan file) = file ∷ []
 files_of (Scop file) = file ∷ []
 files_of (Candl file) = file ∷ []
 files_of (Audit file) = file ∷ []
+files_of (Clay script file) = script ∷ (file ∷ [])
 
 -- the words of a command
 abbrev pub words_of : Command → List (List ℕ)
@@ -32,6 +35,7 @@ words_of (Clan file) = codes "clan" ∷ (file ∷ [])
 words_of (Scop file) = codes "scop" ∷ (file ∷ [])
 words_of (Candl file) = codes "candl" ∷ (file ∷ [])
 words_of (Audit file) = codes "audit" ∷ (file ∷ [])
+words_of (Clay script file) = codes "clay" ∷ (script ∷ (file ∷ []))
 
 -- the word for standard input
 abbrev pub is_input : List ℕ → Bool

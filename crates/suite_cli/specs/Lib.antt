@@ -8,6 +8,7 @@ pub mod Reads
 pub mod AuditPromise
 pub mod CandlPromise
 pub mod ClanPromise
+pub mod ClayPromise
 pub mod ScopPromise
 pub mod Promises
 pub mod Answers

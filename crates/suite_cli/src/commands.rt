@@ -1,9 +1,9 @@
 //! What the program's words ask for.
 
-ghost use Rattle.std.specs.Prelude.{◌≡◌, ◌≢◌, ◌<◌, ◌∷◌, [], true, length, slice_get, Some, None, MatchOption, OnSome};
+ghost use Rattle.std.specs.Prelude.{◌≡◌, ◌≢◌, ◌↔◌, IsTrue, ◌<◌, ◌∷◌, [], true, length, slice_get, Some, None, MatchOption, OnSome};
 ghost use Rattle.suite_cli.specs.Commands as spec;
 
-use crate::file_words::is_file_word;
+use crate::file_words::{is_file_word, is_input};
 use suite_base::WordList;
 
 /// The work that the words ask for. A file is named by its word; `-` is standard input.
@@ -17,6 +17,8 @@ pub enum Work<'a> {
     Candl(&'a str),
     /// Compares the block of dependences of a file's SCoP with the systems that the SCoP defines.
     Audit(&'a str),
+    /// Edits the schedule of a SCoP by a script: the file of the script, and that of the SCoP.
+    Clay(&'a str, &'a str),
 }
 
 impl<'a> Work<'a> {
@@ -32,6 +34,7 @@ impl<'a> Work<'a> {
             Work::Scop(file) => one_file(file, k),
             Work::Candl(file) => one_file(file, k),
             Work::Audit(file) => one_file(file, k),
+            Work::Clay(script, file) => two_files(script, file, k),
         }
     }
 }
@@ -45,12 +48,27 @@ fn one_file(file: &str, k: usize) -> Option<&str>
     if k == 0 { Some(file) } else { None }
 }
 
+/// The word at place `k` of the list of these two words.
+fn two_files<'a>(first: &'a str, second: &'a str, k: usize) -> Option<&'a str>
+    ensures word { let files = first.now ∷ (second.now ∷ []) in
+        MatchOption result (slice_get files k ≡ None) (λ found. slice_get files k ≡ Some found.now) }
+    ensures few { OnSome result (k < 2) }
+{
+    if k == 0 {
+        Some(first)
+    } else if k == 1 {
+        Some(second)
+    } else {
+        None
+    }
+}
+
 /// The work that these words ask for; `None` exactly where they ask for none. No memory is taken.
 pub fn read_words(words: &WordList) -> Option<Work<'_>>
     ensures { MatchOption result (spec.IsNoCommand words.now) (λ work. spec.Words words.now (spec.command_of work)) }
 {
     match two_words(words) {
-        None => None,
+        None => clay_work(words),
         Some((command, file)) => {
             if is_file_word(file) {
                 named_work(command, file)
@@ -58,6 +76,49 @@ pub fn read_words(words: &WordList) -> Option<Work<'_>>
                 None
             }
         }
+    }
+}
+
+/// The work of a command on two files.
+fn clay_work(words: &WordList) -> Option<Work<'_>>
+    requires { length words.now ≢ 2 }
+    ensures { MatchOption result (spec.IsNoCommand words.now) (λ work. spec.Words words.now (spec.command_of work)) }
+{
+    match three_words(words) {
+        None => None,
+        Some((command, first, second)) => {
+            if command == "clay" && are_file_words(first, second) {
+                Some(Work::Clay(first, second))
+            } else {
+                None
+            }
+        }
+    }
+}
+
+/// Whether both name files, and not both standard input.
+fn are_file_words(first: &str, second: &str) -> bool
+    ensures { IsTrue result ↔ spec.AreFileWords (first.now ∷ (second.now ∷ [])) }
+{
+    is_file_word(first) && is_file_word(second) && !(is_input(first) && is_input(second))
+}
+
+/// The words, where they are three.
+fn three_words(words: &WordList) -> Option<(&str, &str, &str)>
+    ensures { MatchOption result (length words.now ≢ 3) (λ three. words.now ≡ three.0.now ∷ (three.1.now ∷ (three.2.now ∷ []))) }
+{
+    if words.len() != 3 {
+        return None;
+    }
+    match words.word(0) {
+        None => None,
+        Some(command) => match words.word(1) {
+            None => None,
+            Some(first) => match words.word(2) {
+                None => None,
+                Some(second) => Some((command, first, second)),
+            },
+        },
     }
 }
 

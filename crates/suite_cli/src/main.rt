@@ -13,6 +13,7 @@ mod names;
 mod outcomes;
 mod readings;
 mod runs;
+mod script_runs;
 #[cfg(test)]
 mod test_runs;
 #[cfg(test)]
