@@ -1,5 +1,7 @@
 -- Lines that an extension can keep: a line without a newline and without `<` ends no extension.
-use Rattle.std.specs.Prelude.{ℕ, ◌<◌, ◌^◌, Bool, ◌&&◌, List}
+use Rattle.std.specs.Prelude.{ℕ, ℤ, ◌<◌, ◌^◌, Bool, ◌&&◌, List, length, Option, IfSome}
+use Rattle.row_core.specs.Rows.{AreCoefficients}
+use Rattle.relation_core.specs.Systems.{System, IsWellFormed}
 use Rattle.scop_core.specs.Printable.{has_no}
 use Rattle.dependence_systems.specs.declared.dependences.Dep.{Dep}
 
@@ -16,3 +18,10 @@ pub record HasRange (e : Dep) : Type 0 where
   pub source_part : e.source_part < 2 ^ 32
   pub target_part : e.target_part < 2 ^ 32
   pub level : e.level < 2 ^ 32
+
+-- all numbers of an entry's lines fit their types, so that they can be read back
+pub record IsReadable (e : Dep) (system : System) (verdict : Option (List ℤ)) : Type 0 where
+  pub range : HasRange e
+  pub formed : IsWellFormed system.shape system.rows
+  pub few : length system.rows < 2 ^ 64
+  pub multipliers : IfSome verdict AreCoefficients

@@ -8,7 +8,7 @@ ghost use Rattle.relation_core.specs.Systems.{IsWellFormed};
 ghost use Rattle.row_core.specs.Rows.{AreCoefficients};
 ghost use Rattle.scop_core.specs.Printable.{are_kept_lines};
 ghost use Rattle.dependence_blocks.specs.Blocks as spec;
-ghost use Rattle.dependence_blocks.specs.KeptLines.{HasRange};
+ghost use Rattle.dependence_blocks.specs.KeptLines.{HasRange, IsReadable};
 
 use dependence_systems::{Dep, DepKind};
 use farkas_cert::{Certificate, print_multipliers};
@@ -55,6 +55,7 @@ pub fn print_entry(
 ) -> Result<(), NoMemory>
     ensures lines { OnOk result (lines.new ≡ lines.old ++ spec.entry_lines entry.now system.now certificate.now) }
     ensures kept { OnOk result (are_kept_lines spec.block_name lines.old ≡ true → are_kept_lines spec.block_name lines.new ≡ true) }
+    ensures readable { IsReadable entry.now system.now certificate.now }
 {
     entry_has_range(entry);
     system_has_range(system);
