@@ -78,18 +78,18 @@ dropped_stands system (l ∷ ls) more h valid light =
 entry_stands : (e : Dep) (system : System) (weight : ℕ) (verdict : Option (List ℤ)) (more : List (List ℕ)) → IsPrintable e system weight verdict
     → read_entry e system (contents (entry_lines e system verdict ++ more)) ≡ Stands verdict (contents more)
 entry_stands e system weight None more p =
-    let w = head_words e (codes "kept") p.range refl refl in
-    let here = head_kept_in e (codes "kept") (system_lines system ++ more) p.range refl refl in
+    let w = head_words e (codes "kept") p.readable.range refl refl in
+    let here = head_kept_in e (codes "kept") (system_lines system ++ more) p.readable.range refl refl in
     reads_kept e system (contents (entry_lines e system None ++ more)) (head_said e (codes "kept")) (contents (system_lines system ++ more)) here
     (sym (ap (λ ws. same_words ws (entry_words e ++ codes "kept" ∷ [])) w ∙ same_own (entry_words e ++ codes "kept" ∷ [])))
-    ∙ kept_stands system more p.formed p.few
+    ∙ kept_stands system more p.readable.formed p.readable.few
 entry_stands e system weight (Some ls) more p =
-    let w = head_words e (codes "dropped") p.range refl refl in
-    let here = head_kept_in e (codes "dropped") (certificate_line ls ∷ more) p.range refl refl in
+    let w = head_words e (codes "dropped") p.readable.range refl refl in
+    let here = head_kept_in e (codes "dropped") (certificate_line ls ∷ more) p.readable.range refl refl in
     reads_dropped e system (contents (entry_lines e system (Some ls) ++ more)) (head_said e (codes "dropped")) (contents (certificate_line ls ∷ more)) here
     (sym (ap (λ ws. same_words ws (entry_words e ++ codes "kept" ∷ [])) w ∙ other_verdict e))
     (sym (ap (λ ws. same_words ws (entry_words e ++ codes "dropped" ∷ [])) w ∙ same_own (entry_words e ++ codes "dropped" ∷ [])))
-    ∙ dropped_stands system ls more p.multipliers p.certified.0 p.certified.1
+    ∙ dropped_stands system ls more p.readable.multipliers p.certified.0 p.certified.1
 
 -- ---- all entries
 

@@ -1,8 +1,7 @@
 -- What an audited block says.
 use Rattle.std.specs.Prelude.{◌≡◌, ◌<◌, ◌≤◌, ◌^◌, ◌↔◌, ℕ, ℤ, length, List, [], ◌∷◌, Option, Some, None, IfSome, Ok}
 use Rattle.suite_base.specs.Limits.{max_systems}
-use Rattle.row_core.specs.Rows.{AreCoefficients}
-use Rattle.relation_core.specs.Systems.{System, columns, IsWellFormed}
+use Rattle.relation_core.specs.Systems.{System, columns}
 use Rattle.farkas_cert.specs.Certificates.{Valid, IsTooHeavy}
 use Rattle.scop_core.specs.ScopData.{ScopData, extended}
 use Rattle.scop_core.specs.Validity.{IsValid}
@@ -12,7 +11,7 @@ use Rattle.dependence_systems.specs.Sides.{Side, own_sides}
 use Rattle.dependence_systems.specs.Entries.{entries}
 use Rattle.dependence_systems.specs.Systems.{system_of, summand_weight}
 use Rattle.dependence_blocks.specs.Blocks.{block_lines, block_of}
-use Rattle.dependence_blocks.specs.KeptLines.{HasRange}
+use Rattle.dependence_blocks.specs.KeptLines.{IsReadable}
 use Rattle.dependence_blocks.specs.Conflicts.{AreSound, LiesInKept}
 use Rattle.dependence_audit.specs.declared.audits.Counts.{Counts}
 use Rattle.dependence_audit.specs.Audits.{Verdicts, verdicts_in, counts_of, audited}
@@ -48,16 +47,14 @@ pub record IsAudited (S : ScopData) (counts : Counts) : Type 0 where
 abbrev pub AuditedBlocksAreSound : Type 0
 AuditedBlocksAreSound = (S : ScopData) → IsValid S → (counts : Counts) → audited S ≡ Ok counts → IsAudited S counts
 
--- each number of an entry's lines, and its multipliers where it is dropped, can be read back; they are a valid certificate
--- that is not too heavy, and the summands of its system do not overflow
+-- the numbers of an entry can be read back, the multipliers of a dropped one are a valid certificate that is not too heavy,
+-- and no summands of its system overflow
 pub record IsPrintable (e : Dep) (system : System) (weight : ℕ) (verdict : Option (List ℤ)) : Type 0 where
   pub light : weight < 2 ^ 127
-  pub range : HasRange e
-  pub formed : IsWellFormed system.shape system.rows
-  pub few : length system.rows < 2 ^ 64
-  pub multipliers : IfSome verdict AreCoefficients
+  pub readable : IsReadable e system verdict
   pub certified : IfSome verdict (λ certificate. Valid (columns system.shape) system.rows certificate × (¬ IsTooHeavy (columns system.shape) system.rows certificate))
 
+-- each entry has a verdict, and they are so
 abbrev pub ArePrintable : System → List Side → List Dep → Verdicts → Type 0
 ArePrintable context sides [] [] = Unit {0}
 ArePrintable context sides [] (verdict ∷ verdicts) = ⊥
