@@ -17,7 +17,8 @@ use Rattle.dependence_systems.specs.Sides.{Side, own_sides}
 use Rattle.dependence_systems.specs.Entries.{entries, IsTooMany}
 use Rattle.dependence_systems.specs.Systems.{system_of}
 use Rattle.dependence_blocks.specs.Blocks.{entry_lines, lines_of}
-use Rattle.candl_deps.specs.Decisions.{IsRight, AreRight, AreLight, IsPrinted, IsDecided, StopsOne, StopsAt, IsRefusal, IsCause, FailsOne, refused, AreWithin, IsDecidable, entry_peak}
+use Rattle.dependence_blocks.specs.KeptLines.{IsReadable}
+use Rattle.candl_deps.specs.Decisions.{IsRight, AreRight, AreReadable, AreLight, IsPrinted, IsDecided, StopsOne, StopsAt, IsRefusal, IsCause, FailsOne, refused, AreWithin, IsDecidable, entry_peak}
 
 light_append : (context : System) (sides : List Side) (xs ys : List Dep) → AreLight context sides xs → AreLight context sides ys → AreLight context sides (xs ++ ys)
 light_append context sides [] ys f g = g
@@ -30,6 +31,13 @@ right_append context sides [] ys (v ∷ vs) ws f g = absurd f
 right_append context sides (x ∷ xs) ys [] ws f g = absurd f
 right_append context sides (x ∷ xs) ys (v ∷ vs) ws f g = (f.0, right_append context sides xs ys vs ws f.1 g)
 
+readable_append : (context : System) (sides : List Side) (xs ys : List Dep) (vs ws : List (Option (List ℤ)))
+    → AreReadable context sides xs vs → AreReadable context sides ys ws → AreReadable context sides (xs ++ ys) (vs ++ ws)
+readable_append context sides [] ys [] ws f g = g
+readable_append context sides [] ys (v ∷ vs) ws f g = absurd f
+readable_append context sides (x ∷ xs) ys [] ws f g = absurd f
+readable_append context sides (x ∷ xs) ys (v ∷ vs) ws f g = (f.0, readable_append context sides xs ys vs ws f.1 g)
+
 lines_append : (context : System) (sides : List Side) (xs ys : List Dep) (vs ws : List (Option (List ℤ)))
     → AreRight context sides xs vs → lines_of context sides (xs ++ ys) (vs ++ ws) ≡ lines_of context sides xs vs ++ lines_of context sides ys ws
 lines_append context sides [] ys [] ws f = refl
@@ -40,7 +48,7 @@ lines_append context sides (x ∷ xs) ys (v ∷ vs) ws f =
     ∙ sym (append_assoc (entry_lines x (system_of context sides x) v) (lines_of context sides xs vs) (lines_of context sides ys ws))
 
 pub printed_none : (context : System) (sides : List Side) (old : List (List ℕ)) → IsPrinted context sides [] old old
-printed_none context sides old = record { verdicts = []; light = tt; right = tt; lines = sym (append-nil old) }
+printed_none context sides old = record { verdicts = []; light = tt; right = tt; readable = tt; lines = sym (append-nil old) }
 
 pub printed_more : (context : System) (sides : List Side) (xs ys : List Dep) (old mid new : List (List ℕ))
     → IsPrinted context sides xs old mid → IsPrinted context sides ys mid new → IsPrinted context sides (xs ++ ys) old new
@@ -51,16 +59,18 @@ printed_more context sides xs ys old mid new f g =
       verdicts = f.verdicts ++ g.verdicts;
       light = light_append context sides xs ys f.light g.light;
       right = right_append context sides xs ys f.verdicts g.verdicts f.right g.right;
+      readable = readable_append context sides xs ys f.verdicts g.verdicts f.readable g.readable;
       lines = joined ∙ ap (λ t. old ++ t) (sym (lines_append context sides xs ys f.verdicts g.verdicts f.right));
     }
 
 pub printed_one : (context : System) (sides : List Side) (e : Dep) (system : System) (verdict : Option (List ℤ)) (old new : List (List ℕ))
-    → IsDecided context sides e system verdict → new ≡ old ++ entry_lines e system verdict → IsPrinted context sides (e ∷ []) old new
-printed_one context sides e system verdict old new d lines =
+    → IsDecided context sides e system verdict → IsReadable e system verdict → new ≡ old ++ entry_lines e system verdict → IsPrinted context sides (e ∷ []) old new
+printed_one context sides e system verdict old new d readable lines =
     record {
       verdicts = verdict ∷ [];
       light = (d.light, tt);
       right = (subst (λ s. IsRight s verdict) d.system_is d.right, tt);
+      readable = (subst (λ s. IsReadable e s verdict) d.system_is readable, tt);
       lines = lines ∙ (ap (λ s. old ++ entry_lines e s verdict) d.system_is ∙ ap (λ t. old ++ t) (sym (append-nil (entry_lines e (system_of context sides e) verdict))));
     }
 

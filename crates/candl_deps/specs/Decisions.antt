@@ -21,6 +21,7 @@ use Rattle.dependence_systems.specs.Sides.{Side, own_sides}
 use Rattle.dependence_systems.specs.Entries.{entries}
 use Rattle.dependence_systems.specs.Systems.{system_of, summand_weight}
 use Rattle.dependence_blocks.specs.Blocks.{lines_of, block_lines, block_of}
+use Rattle.dependence_blocks.specs.KeptLines.{IsReadable}
 
 -- a system is kept exactly where it has a rational point; the certificate of a dropped one is valid and light
 abbrev pub IsRight : System → Option (List ℤ) → Type 0
@@ -33,6 +34,14 @@ AreRight context sides [] [] = Unit {0}
 AreRight context sides [] (verdict ∷ verdicts) = ⊥
 AreRight context sides (e ∷ entries) [] = ⊥
 AreRight context sides (e ∷ entries) (verdict ∷ verdicts) = IsRight (system_of context sides e) verdict × AreRight context sides entries verdicts
+
+-- each entry has a verdict, and the numbers of its lines fit their types
+abbrev pub AreReadable : System → List Side → List Dep → List (Option (List ℤ)) → Type 0
+AreReadable context sides [] [] = Unit {0}
+AreReadable context sides [] (verdict ∷ verdicts) = ⊥
+AreReadable context sides (e ∷ entries) [] = ⊥
+AreReadable context sides (e ∷ entries) (verdict ∷ verdicts) =
+    IsReadable e (system_of context sides e) verdict × AreReadable context sides entries verdicts
 
 -- in no system do the absolute values of an entry's summands sum above 2^127 - 1
 abbrev pub AreLight : System → List Side → List Dep → Type 0
@@ -89,6 +98,7 @@ pub record AreVerdicts (S : ScopData) (verdicts : List (Option (List ℤ))) : Ty
   pub few : length (entries (own_sides S)) ≤ max_systems
   pub light : AreLight S.context (own_sides S) (entries (own_sides S))
   pub right : AreRight S.context (own_sides S) (entries (own_sides S)) verdicts
+  pub readable : AreReadable S.context (own_sides S) (entries (own_sides S)) verdicts
 
 -- the lines of the block with these verdicts
 abbrev pub lines_with : ScopData → List (Option (List ℤ)) → List (List ℕ)
@@ -99,6 +109,7 @@ pub record IsPrinted (context : System) (sides : List Side) (list : List Dep) (o
   pub verdicts : List (Option (List ℤ))
   pub light : AreLight context sides list
   pub right : AreRight context sides list verdicts
+  pub readable : AreReadable context sides list verdicts
   pub lines : new ≡ old ++ lines_of context sides list verdicts
 
 -- what a decided entry of a list is
