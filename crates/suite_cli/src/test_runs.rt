@@ -14,6 +14,14 @@ pub const ONE_LOOP: &[u8] =
 pub const ONE_LOOP_SCOP: &[u8] =
     b"<OpenScop>\nC\nCONTEXT\n0 3 0 0 0 1\n1\n<strings>\nN\n</strings>\n1\n3\nDOMAIN\n2 4 1 0 0 1\n1 1 0 0\n1 -1 1 -1\nSCATTERING\n3 7 3 1 0 1\n0 -1 0 0 0 0 0\n0 0 -1 0 1 0 0\n0 0 0 -1 0 0 0\nWRITE\n2 6 2 1 0 1\n0 -1 0 0 0 1\n0 0 -1 1 0 0\n1\n<body>\n1\ni\nA[i] = 0;\n</body>\n<arrays>\n1\n1 A\n</arrays>\n</OpenScop>\n";
 
+/// The SCoP of a loop that counts down, `A[i] = A[i+1];`.
+pub const DOWNWARD_LOOP_SCOP: &[u8] =
+    b"<OpenScop>\nC\nCONTEXT\n0 3 0 0 0 1\n1\n<strings>\nN\n</strings>\n1\n4\nDOMAIN\n2 4 1 0 0 1\n1 -1 1 0\n1 1 0 0\nSCATTERING\n3 7 3 1 0 1\n0 -1 0 0 0 0 0\n0 0 -1 0 -1 0 0\n0 0 0 -1 0 0 0\nREAD\n2 6 2 1 0 1\n0 -1 0 0 0 1\n0 0 -1 1 0 1\nWRITE\n2 6 2 1 0 1\n0 -1 0 0 0 1\n0 0 -1 1 0 0\n1\n<body>\n1\ni\nA[i] = A[i+1];\n</body>\n<arrays>\n1\n1 A\n</arrays>\n</OpenScop>\n";
+
+/// The same with its block.
+pub const DOWNWARD_LOOP_BLOCK: &[u8] =
+    b"<OpenScop>\nC\nCONTEXT\n0 3 0 0 0 1\n1\n<strings>\nN\n</strings>\n1\n4\nDOMAIN\n2 4 1 0 0 1\n1 -1 1 0\n1 1 0 0\nSCATTERING\n3 7 3 1 0 1\n0 -1 0 0 0 0 0\n0 0 -1 0 -1 0 0\n0 0 0 -1 0 0 0\nREAD\n2 6 2 1 0 1\n0 -1 0 0 0 1\n0 0 -1 1 0 1\nWRITE\n2 6 2 1 0 1\n0 -1 0 0 0 1\n0 0 -1 1 0 0\n1\n<body>\n1\ni\nA[i] = A[i+1];\n</body>\n<arrays>\n1\n1 A\n</arrays>\n<suite_dependences>\n3\nWAR 1 1 1 2 1 1 1 dropped\n0 0 0 0 -1 1\nRAW 1 1 2 1 1 1 1 kept\n6 5 1 1 0 1\n1 -1 0 1 0\n1 1 0 0 0\n1 0 -1 1 0\n1 0 1 0 0\n0 1 -1 0 -1\n1 1 -1 0 -1\nWAW 1 1 2 2 1 1 1 dropped\n0 0 0 0 -1 1\n</suite_dependences>\n</OpenScop>\n";
+
 /// The numbers of the calls of files, input, output and error that fail, or 0.
 #[derive(Clone, Copy, Debug)]
 pub struct Fails {
