@@ -7,6 +7,7 @@ pub mod Loops
 pub mod Fissions
 pub mod Fuses
 pub mod Orders
+pub mod Marks
 pub mod Levels
 pub mod Trees
 pub mod Leaves

@@ -170,14 +170,3 @@ module _ (n : ℕ) (order : List ℕ) (W : List (List ℕ)) (o : Orders n order)
       let (a, is, at) = renumbered_is v (R ++ x ∷ w) r e in
       let (u, j) = d (a ∷ R) x y w (subst (λ z. In z W) is i) l in
       (u, subst (λ z. In (z ∷ (R ++ y ∷ u)) (map (renumbered order) W)) at (In-map (renumbered order) (a ∷ (R ++ y ∷ u)) W j))
-
-pub lacks_below : (n : ℕ) (order : List ℕ) (k : ℕ) → k < n → list_any (eqb k) order ≡ false → has_all_below n order ≡ false
-lacks_below zero order k l h = absurd (omega arith)
-lacks_below (suc n) order k l h =
-    elim (bool_tells (k == n)) [
-      | inl t ↦ let e : list_any (eqb n) order ≡ false = subst (λ z. list_any (eqb z) order ≡ false) (eqb-true k n t) h in rw e refl
-      | inr f ↦
-          let ne : k ≢ n = eqb-false k n f in
-          let e = lacks_below n order k (omega arith) h in
-          elim (list_any (eqb n) order) as (λ b. (b && has_all_below n order) ≡ false) [ true ↦ e | false ↦ refl ]
-    ]

@@ -151,7 +151,8 @@ impl Betas {
         if is_leaf(&self.vectors, prefix) {
             return Err(BetaFail::NotALoop);
         }
-        if !is_permutation(order, count_children(&self.vectors, prefix)) {
+        let count = count_children(&self.vectors, prefix);
+        if !is_permutation(self.vectors.allocator(), order, count)? {
             return Err(BetaFail::BadArgument);
         }
         self.vectors = reorder_all(&self.vectors, prefix, order)?;

@@ -1,13 +1,12 @@
 //! What is asked of a list of vectors before an edit.
 
-ghost use Rattle.std.specs.Prelude.{◌≡◌, [], ◌∷◌, ◌++◌, length, not, MatchOption};
+ghost use Rattle.std.specs.Prelude.{◌≡◌, [], ◌∷◌, ◌++◌, length, not, false, replicate, IfOk, MatchOption};
 ghost use Rattle.std.specs.Option.{option_copied};
 ghost use Rattle.beta_tree.specs.Vectors.{after as what_follows, no_statement, is_leaf as has_leaf, is_loop as has_loop, children_of, IsDense};
 ghost use Rattle.beta_tree.specs.Edits.{is_permutation_of, has_all_below};
-ghost use Rattle.std.specs.List.{list_any};
-ghost use Rattle.std.proofs.Math.Dec.{eqb};
 
-use suite_base::List;
+use std::alloc::Global;
+use suite_base::{List, NoMemory};
 
 /// What follows `prefix` in `vector`; `None` where `vector` doesn't begin with it.
 pub fn after<'a>(prefix: &[u32], vector: &'a [u32]) -> Option<&'a [u32]>
@@ -72,31 +71,42 @@ pub fn count_children(vectors: &List<List<u32>>, prefix: &[u32]) -> usize
     count
 }
 
-/// Whether `order` has each number below `count` once.
-pub fn is_permutation(order: &[u32], count: usize) -> bool
-    ensures { result ≡ is_permutation_of count order.now }
+/// Whether `order` has each number below `count` once, in time linear in `count`.
+pub fn is_permutation(alloc: Global, order: &[u32], count: usize) -> Result<bool, NoMemory>
+    ensures { IfOk result (λ yes. yes ≡ is_permutation_of count order.now) }
 {
     if order.len() != count {
-        return false;
+        return Ok(false);
     }
-    has_all(order)
+    let mut seen = unset_flags(alloc, count)?;
+    Ok(has_each_once(order, &mut seen))
 }
 
-// Whether each number below the length of `order` is in it.
-fn has_all(order: &[u32]) -> bool
+// `count` flags that aren't set.
+fn unset_flags(alloc: Global, count: usize) -> Result<List<bool>, NoMemory>
+    ensures { IfOk result (λ flags. flags ≡ replicate count false) }
+{
+    let mut flags = List::new(alloc);
+    for _k in 0..count {
+        flags.push(false)?;
+    }
+    Ok(flags)
+}
+
+// Sets the flag of each entry, up to one that has none or whose flag is set; whether there is no such
+// entry.
+fn has_each_once(order: &[u32], seen: &mut List<bool>) -> bool
+    requires { seen.old ≡ replicate (length order.now) false }
     ensures { result ≡ has_all_below (length order.now) order.now }
 {
-    for k in 0..order.len() {
-        if !has(order, k) {
+    for entry in order {
+        let k = *entry as usize;
+        if k >= seen.len() {
+            return false;
+        }
+        if seen.set(k, true) {
             return false;
         }
     }
     true
-}
-
-// Whether `number` is in `order`.
-fn has(order: &[u32], number: usize) -> bool
-    ensures { result ≡ list_any (eqb number) order.now }
-{
-    order.iter().any(|entry| number == *entry as usize)
 }
