@@ -10,4 +10,5 @@ pub mod KeptMemories
 pub mod ReadyEntries
 pub mod Answered
 pub mod ViolationRows
+pub mod EmptyBases
 pub mod ScriptEdits

@@ -104,3 +104,8 @@ IsDecided system k (Err fail.Memory) = Unit {0}
 IsDecided system k (Err (fail.Refused (Overflow what i))) = (what ≡ OfSystem) × (i ≡ k) × (2 ^ 127 ≤ (peak system).weight)
 IsDecided system k (Err (fail.Refused (TooManyRows i))) = (i ≡ k) × (max_stage_rows < (peak system).rows)
 IsDecided system k (Err (fail.Refused refusal)) = ⊥
+
+-- the rows that several systems share have no rational point, where that is said of them
+abbrev pub IsKnown : System → Bool → Type 0
+IsKnown base false = Unit {0}
+IsKnown base true = HasNoPoint (columns base.shape) base.rows

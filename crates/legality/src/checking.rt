@@ -4,12 +4,12 @@ ghost use Rattle.std.specs.Prelude.{◌≡◌, ◌+◌, ◌<◌, ◌^◌, IfOk, 
 ghost use Rattle.suite_base.specs.declared.refusals.Fail.TheVariants.{Memory};
 ghost use Rattle.scop_core.specs.Sequences.{In};
 ghost use Rattle.dependence_systems.specs.Systems.{system_weight};
-ghost use Rattle.legality.specs.Answers.{IsAnswer, IsSaid};
+ghost use Rattle.legality.specs.Answers.{IsAnswer, IsKnown, IsSaid};
 ghost use Rattle.legality.specs.Edits.{IsEdit, KeepsInstances};
 ghost use Rattle.legality.specs.Memories.{KeepsMemory};
 ghost use Rattle.legality.specs.Violations.{edit_of, dependences, new_levels, violations_of, violations, shared_pairing, shared_system};
 
-use crate::deciding::decide_violation;
+use crate::deciding::{decide_violation, is_empty};
 use crate::legal::Legal;
 use crate::levels::levels_of;
 use crate::systems::shared_part;
@@ -38,13 +38,14 @@ fn number_after(number: u32, count: usize) -> Result<u32, Fail>
 }
 
 // Decides the violations of one dependence, of which `part` is the system over the floors of the new
-// schedules; there are `before` violations before them.
+// schedules, which has no rational point where `empty`; there are `before` violations before them.
 fn decide_levels(
     alloc: Global,
     scop: &Scop,
     edited: &Edited,
     dep: &Dep,
     shared: &Reduced<SparseRow>,
+    empty: bool,
     part: &mut Part,
     levels: &[usize],
     before: u32,
@@ -53,6 +54,7 @@ fn decide_levels(
     requires listed { In dep.now (dependences (edit_of scop.now edited.now)) }
     requires shared { part.old ≡ shared_system (edit_of scop.now edited.now) dep.now }
     requires reduced { shared.now ≡ shared_system (edit_of scop.now edited.now) dep.now }
+    requires known { IsKnown (shared_system (edit_of scop.now edited.now) dep.now) empty }
     requires light { system_weight (shared_pairing (edit_of scop.now edited.now) dep.now) dep.now.level < 2 ^ 127 }
     requires levels { levels.now ≡ new_levels (edit_of scop.now edited.now) dep.now }
     ensures { IsSaid (edit_of scop.now edited.now) (before + 1) (violations_of (edit_of scop.now edited.now) dep.now) result }
@@ -60,7 +62,9 @@ fn decide_levels(
     let mut number = before;
     for level in levels {
         number = number_after(number, 1)?;
-        if decide_violation(alloc, scop, edited, dep, shared, part, *level, number)? {
+        if decide_violation(
+            alloc, scop, edited, dep, shared, empty, part, *level, number,
+        )? {
             return Ok(Legal::Illegal(number));
         }
     }
@@ -90,7 +94,10 @@ fn decide_entry(
         Ok(part) => {
             let mut part = part;
             let shared = reduce::<SparseRow>(alloc, &part)?;
-            decide_levels(alloc, scop, edited, dep, &shared, &mut part, levels, before)
+            let empty = is_empty(alloc, &shared, &part, levels.len())?;
+            decide_levels(
+                alloc, scop, edited, dep, &shared, empty, &mut part, levels, before,
+            )
         }
         Err(RowFail::Memory) => Err(Fail::Memory),
         Err(RowFail::Overflow) => Err(Fail::Refused(Refusal::Overflow(Where::System, first))),

@@ -1,11 +1,11 @@
 //! The decision of one violation.
 
-ghost use Rattle.std.specs.Prelude.{◌≡◌, ◌<◌, ◌^◌, OnOk};
+ghost use Rattle.std.specs.Prelude.{◌≡◌, ◌<◌, ◌^◌, OnOk, IfOk};
 ghost use Rattle.scop_core.specs.LevelOrder.{IsLevel};
 ghost use Rattle.scop_core.specs.Sequences.{In};
 ghost use Rattle.dependence_systems.specs.Systems.{system_weight};
 ghost use Rattle.elim_core.specs.Reductions.{BeginsWith};
-ghost use Rattle.legality.specs.Answers.{IsDecided, IsTried};
+ghost use Rattle.legality.specs.Answers.{IsDecided, IsKnown, IsTried};
 ghost use Rattle.legality.specs.Edits.{IsEdit};
 ghost use Rattle.legality.specs.Violations.{edit_of, dependences, new_schedule, shared_pairing, shared_system};
 
@@ -17,19 +17,47 @@ use relation_core::Part;
 use row_core::{RowFail, SparseRow};
 use scop_core::Scop;
 use std::alloc::Global;
-use suite_base::{Fail, Refusal, Where};
+use suite_base::{Fail, NoMemory, Refusal, Where};
+
+/// Whether the rows that `count` systems share are found to have no rational point, so that none of
+/// the systems has one. A single system is not worth the question, and a limit that is met on the
+/// shared rows alone leaves it open: both answer false.
+pub fn is_empty(
+    alloc: Global,
+    shared: &Reduced<SparseRow>,
+    part: &Part,
+    count: usize,
+) -> Result<bool, NoMemory>
+    requires { shared.now ≡ part.now }
+    ensures { IfOk result (λ empty. IsKnown part.now empty) }
+{
+    if count < 2 {
+        return Ok(false);
+    }
+    match decide_with::<SparseRow>(alloc, shared, part) {
+        Ok(Verdict::Empty(_)) => Ok(true),
+        Ok(Verdict::HasPoint) => Ok(false),
+        Err(ElimFail::Memory) => Err(NoMemory),
+        Err(_) => Ok(false),
+    }
+}
 
 /// Whether a system that begins with the rows of a reduced one has a rational point; refusals carry
-/// `number`.
+/// `number`. Where `empty`, the reduced one has none, and so the system is not decided.
 pub fn has_point(
     alloc: Global,
     shared: &Reduced<SparseRow>,
+    empty: bool,
     system: &Part,
     number: u32,
 ) -> Result<bool, Fail>
-    requires { BeginsWith system.now shared.now }
+    requires begins { BeginsWith system.now shared.now }
+    requires known { IsKnown shared.now empty }
     ensures { IsDecided system.now number result }
 {
+    if empty {
+        return Ok(false);
+    }
     match decide_with::<SparseRow>(alloc, shared, system) {
         Ok(Verdict::HasPoint) => Ok(true),
         Ok(Verdict::Empty(_)) => Ok(false),
@@ -41,13 +69,14 @@ pub fn has_point(
 
 /// Whether the system of the violation of `dep` at `level`, which is number `number`, has a rational
 /// point. `part` is the system of the dependence over the floors of the new schedules, and is so
-/// again afterwards; `shared` is that system reduced.
+/// again afterwards; `shared` is that system reduced, which has no rational point where `empty`.
 pub fn decide_violation(
     alloc: Global,
     scop: &Scop,
     edited: &Edited,
     dep: &Dep,
     shared: &Reduced<SparseRow>,
+    empty: bool,
     part: &mut Part,
     level: usize,
     number: u32,
@@ -56,6 +85,7 @@ pub fn decide_violation(
     requires listed { In dep.now (dependences (edit_of scop.now edited.now)) }
     requires shared { part.old ≡ shared_system (edit_of scop.now edited.now) dep.now }
     requires reduced { shared.now ≡ shared_system (edit_of scop.now edited.now) dep.now }
+    requires known { IsKnown (shared_system (edit_of scop.now edited.now) dep.now) empty }
     requires light { system_weight (shared_pairing (edit_of scop.now edited.now) dep.now) dep.now.level < 2 ^ 127 }
     requires level { IsLevel (new_schedule (edit_of scop.now edited.now) dep.now.target).betas (new_schedule (edit_of scop.now edited.now) dep.now.source).betas level }
     ensures kept { OnOk result (part.new ≡ part.old) }
@@ -69,7 +99,7 @@ pub fn decide_violation(
             return Err(Fail::Refused(Refusal::Overflow(Where::System, number)));
         }
     }
-    let point = has_point(alloc, shared, part, number)?;
+    let point = has_point(alloc, shared, empty, part, number)?;
     part.truncate(count);
     Ok(point)
 }
