@@ -57,9 +57,7 @@ pub fn print_entry(
     ensures kept { OnOk result (are_kept_lines spec.block_name lines.old ≡ true → are_kept_lines spec.block_name lines.new ≡ true) }
     ensures readable { IsReadable entry.now system.now certificate.now }
 {
-    entry_has_range(entry);
-    system_has_range(system);
-    certificate_has_range(certificate);
+    entry_is_readable(entry, system, certificate);
     print_lines(alloc, lines, entry, system, certificate)
 }
 
@@ -158,6 +156,15 @@ fn row_line(alloc: Global, row: &PartRow) -> Result<Text, NoMemory>
     let mut line = Text::new(alloc);
     print_row(&mut line, row)?;
     Ok(line)
+}
+
+/// All numbers of an entry's lines fit their types: a fact for contracts.
+pub fn entry_is_readable(entry: &Dep, system: &Part, certificate: &Option<Certificate>)
+    ensures { IsReadable entry.now system.now certificate.now }
+{
+    entry_has_range(entry);
+    system_has_range(system);
+    certificate_has_range(certificate);
 }
 
 // The numbers of an entry fit their type: a fact for contracts.

@@ -9,5 +9,5 @@ pub returns-clause-kept : goal.returns-clause-kept
 returns-clause-kept c =
     on_ok_weaker c.print_lines.result (λ e h. ap (are_kept_lines block_name) e
     ∙ kept_more block_name c.args.lines.now (entry_lines c.args.entry.now c.args.system.now c.args.certificate.now) h
-    (entry_kept c.args.entry.now c.args.system.now c.args.certificate.now c.entry_has_range.ensures c.system_has_range.ensures.formed
-    c.system_has_range.ensures.count c.certificate_has_range.ensures)) c.print_lines.ensures
+    (entry_kept c.args.entry.now c.args.system.now c.args.certificate.now c.entry_is_readable.ensures.range c.entry_is_readable.ensures.formed
+    c.entry_is_readable.ensures.few c.entry_is_readable.ensures.multipliers)) c.print_lines.ensures
