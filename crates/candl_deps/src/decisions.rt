@@ -66,8 +66,8 @@ pub fn with_dependences(alloc: Global, scop: Scop) -> Result<Scop, Fail>
     }
 }
 
-// The list of a SCoP's own systems.
-fn own_entries(alloc: Global, scop: &Scop, pieces: &Pieces) -> Result<List<Dep>, Fail>
+/// The list of a SCoP's own systems.
+pub fn own_entries(alloc: Global, scop: &Scop, pieces: &Pieces) -> Result<List<Dep>, Fail>
     requires own { pieces.now ≡ own_originals scop.now }
     ensures list { IfOk result (λ list. list ≡ entries (own_sides scop.now)) }
     ensures few { IfOk result (λ list. length list ≤ max_systems) }
@@ -131,8 +131,8 @@ fn print_one(
     }
 }
 
-// Builds and decides the system of an entry.
-fn decided_entry(
+/// Builds and decides the system of an entry of a SCoP's own list.
+pub fn decided_entry(
     alloc: Global,
     scop: &Scop,
     pieces: &Pieces,
@@ -170,8 +170,8 @@ pub fn verdict(alloc: Global, system: &Part) -> Result<Option<Certificate>, Elim
     }
 }
 
-// The refusal of the system with this number.
-fn refused(fail: ElimFail, number: u32) -> Fail
+/// The refusal of the system with this number.
+pub fn refused(fail: ElimFail, number: u32) -> Fail
     ensures { result ≡ spec.refused fail number }
 {
     match fail {

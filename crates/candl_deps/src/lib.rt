@@ -2,5 +2,10 @@
 #![tactic(auto)]
 
 mod decisions;
+mod found;
+mod held;
+pub mod laws;
 
 pub use decisions::{Decided, dependence_block, verdict, with_dependences};
+pub use found::{dependences, print_dependences};
+pub use held::Dependences;
