@@ -18,7 +18,7 @@ first_in : (v : List ℕ) (steps : List Step) → In v (trail v steps)
 first_in v [] = inl refl
 first_in v ((a, l) ∷ more) = inl refl
 
-next_in : (v : List ℕ) (before more : List Step) (n l : ℕ) → In (next n l (trail_end v before)) (trail v (before ++ (n, l) ∷ more))
+pub next_in : (v : List ℕ) (before more : List Step) (n l : ℕ) → In (next n l (trail_end v before)) (trail v (before ++ (n, l) ∷ more))
 next_in v [] more n l = inr (first_in (next n l v) more)
 next_in v ((a, m) ∷ before) more n l = inr (next_in (next a m v) before more n l)
 

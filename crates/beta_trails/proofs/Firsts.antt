@@ -4,12 +4,12 @@ use Rattle.beta_trails.specs.Trails.{Step, zeros, entry, next, trail_end, Agreei
 use Rattle.beta_trails.specs.Laws.{FirstIsPartedAtOne}
 use Rattle.beta_trails.proofs.Steps.{next_here, next_later, length_zeros, length_next}
 
-zeros_entry : (m n : ℕ) → entry (zeros m) n ≡ 0
+pub zeros_entry : (m n : ℕ) → entry (zeros m) n ≡ 0
 zeros_entry zero n = refl
 zeros_entry (suc m) zero = refl
 zeros_entry (suc m) (suc n) = zeros_entry m n
 
-next_entry : (a l n : ℕ) (v : List ℕ) → a < length v → a < n → entry (next a l v) n ≡ 0
+pub next_entry : (a l n : ℕ) (v : List ℕ) → a < length v → a < n → entry (next a l v) n ≡ 0
 next_entry a l n [] h k = absurd (omega arith)
 next_entry a l zero (x ∷ v) h k = absurd (omega arith)
 next_entry zero l (suc n) (x ∷ v) h k = ap (λ w. entry w (suc n)) (next_here l x v) ∙ zeros_entry (l - 1) n

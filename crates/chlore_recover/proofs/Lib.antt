@@ -11,3 +11,4 @@ pub mod Shifts
 pub mod Levels
 pub mod Ranges
 pub mod Unrefused
+pub mod Wide

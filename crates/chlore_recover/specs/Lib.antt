@@ -4,4 +4,5 @@ pub mod Recoverable
 pub mod LevelScripts
 pub mod Runs
 pub mod Strategy
+pub mod Splits
 pub mod Laws

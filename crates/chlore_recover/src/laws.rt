@@ -1,5 +1,6 @@
 //! Laws of recoverable levels, each as the contract of a function that does nothing.
 
+ghost use Rattle.chlore_recover.specs.Splits.{LeastIsFirst};
 ghost use Rattle.chlore_recover.specs.Laws.{ApartIsFactored, FactoredIsApart, ScriptRecoversLevels, SuitedIsUnrefused};
 
 /// Rows whose last coefficients are signs at places that differ are a signed permutation times a unit lower triangle.
@@ -20,4 +21,9 @@ pub fn script_recovers_levels()
 /// A command that suits the levels of each statement under its prefix is not refused.
 pub fn suited_is_unrefused()
     ensures { SuitedIsUnrefused }
+{}
+
+/// The least loop with two children that the script's first step looks for is the one at the first boundary of its length.
+pub fn least_is_first()
+    ensures { LeastIsFirst }
 {}

@@ -3,4 +3,7 @@
 
 mod laws;
 
-pub use laws::{apart_is_factored, factored_is_apart, script_recovers_levels, suited_is_unrefused};
+pub use laws::{
+    apart_is_factored, factored_is_apart, least_is_first, script_recovers_levels,
+    suited_is_unrefused,
+};
