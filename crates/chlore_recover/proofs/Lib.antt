@@ -12,3 +12,4 @@ pub mod Levels
 pub mod Ranges
 pub mod Unrefused
 pub mod Wide
+pub mod Apart

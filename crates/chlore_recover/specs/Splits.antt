@@ -1,8 +1,10 @@
 -- What the fissions of the script's first step do to vectors in beta order.
-use Rattle.std.specs.Prelude.{◌≡◌, ℕ, ◌+◌, ◌<◌, ◌^◌, Some, None, List, ◌∷◌, ◌++◌, length}
-use Rattle.beta_trails.specs.Trails.{Step, zeros, trail, Agreeing, AllBelow}
+use Rattle.std.specs.Prelude.{◌≡◌, ℕ, ◌+◌, ◌<◌, ◌^◌, Some, None, Ok, List, [], ◌∷◌, ◌++◌, length, map}
+use Rattle.beta_tree.specs.Edits.{fissioned}
+use Rattle.beta_tree.specs.Answers.{fission_answer}
+use Rattle.beta_trails.specs.Trails.{Step, zeros, trail, ranked, Agreeing, AllBelow}
 use Rattle.beta_trails.specs.Laws.{parted_loop}
-use Rattle.chlore_recover.specs.Strategy.{least_wide_loop}
+use Rattle.chlore_recover.specs.Strategy.{least_wide_loop, all_splits}
 
 -- where neighbours agree in fewer than n entries up to the first that agree in n, theirs is the least loop of length n with two
 -- children; where all agree in fewer than n, there is none
@@ -12,3 +14,18 @@ LeastIsFirst =
     → least_wide_loop n (trail (zeros m) (before ++ (n, l) ∷ more)) (trail (zeros m) (before ++ (n, l) ∷ more)) ≡ Some (parted_loop m n before))
     × ((m n : ℕ) (steps : List Step) → 0 < m → length steps + 1 < 2 ^ 32 → Agreeing m steps → AllBelow n steps
     → least_wide_loop n (trail (zeros m) steps) (trail (zeros m) steps) ≡ None)
+
+-- fissions of these loops at their child 1, one after the other, are accepted, and lead from V to W
+abbrev pub SplitsLead : List (List ℕ) → List (List ℕ) → List (List ℕ) → Type 0
+SplitsLead [] V W = V ≡ W
+SplitsLead (P ∷ loops) V W = (fission_answer P 1 V ≡ Ok (map (fissioned P 1) V)) × SplitsLead loops (map (fissioned P 1) V) W
+
+-- how long the vectors of steps are
+abbrev pub lengths_of : List Step → List ℕ
+lengths_of steps = map (λ step. step.1) steps
+
+-- the first step's fissions of loops of length n and less, over vectors that agree in n entries at most, leave each vector alone
+abbrev pub SplitsLeaveAlone : Type 0
+SplitsLeaveAlone =
+    (n m : ℕ) (steps : List Step) → 0 < m → length steps + 1 < 2 ^ 32 → Agreeing m steps → AllBelow (n + 1) steps
+    → SplitsLead (all_splits n (trail (zeros m) steps)) (trail (zeros m) steps) (ranked 0 (m ∷ lengths_of steps))

@@ -1,6 +1,6 @@
 //! Laws of recoverable levels, each as the contract of a function that does nothing.
 
-ghost use Rattle.chlore_recover.specs.Splits.{LeastIsFirst};
+ghost use Rattle.chlore_recover.specs.Splits.{LeastIsFirst, SplitsLeaveAlone};
 ghost use Rattle.chlore_recover.specs.Laws.{ApartIsFactored, FactoredIsApart, ScriptRecoversLevels, SuitedIsUnrefused};
 
 /// Rows whose last coefficients are signs at places that differ are a signed permutation times a unit lower triangle.
@@ -26,4 +26,9 @@ pub fn suited_is_unrefused()
 /// The least loop with two children that the script's first step looks for is the one at the first boundary of its length.
 pub fn least_is_first()
     ensures { LeastIsFirst }
+{}
+
+/// The script's first step is accepted fission by fission, and leaves each statement alone in its loop.
+pub fn splits_leave_alone()
+    ensures { SplitsLeaveAlone }
 {}

@@ -5,5 +5,5 @@ mod laws;
 
 pub use laws::{
     apart_is_factored, factored_is_apart, least_is_first, script_recovers_levels,
-    suited_is_unrefused,
+    splits_leave_alone, suited_is_unrefused,
 };
