@@ -7,5 +7,6 @@ mod held;
 pub mod laws;
 
 pub use decisions::{Decided, dependence_block, verdict, with_dependences};
+pub use dependence_systems::{Dep, DepKind, deps, system};
 pub use found::{dependences, print_dependences};
 pub use held::Dependences;
