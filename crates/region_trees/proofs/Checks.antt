@@ -1,10 +1,10 @@
 -- Statements as they are read by hand, their regions, and their names.
-use Rattle.std.proofs.Common.{◌≡◌, refl, List, [], ◌∷◌, ℕ, ◌+◌, None, Some, Ok, Err}
-use Rattle.std.specs.Prelude.{codes, false}
+use Rattle.std.proofs.Common.{◌≡◌, refl, List, [], ◌∷◌, ℕ, None, Some, Ok, Err}
+use Rattle.std.specs.Prelude.{codes}
 use Rattle.c_parser.specs.declared.tree.UnarySign.TheVariants as un
 use Rattle.clan_extract.specs.Regions.{Number, Name, Sum, Difference, Product, Negation, Maximum, Minimum, Ceiling, Floor, Remainder, IsLess, IsGreaterOrEqual, IsEqual, IsUnequal, Compare, Both, Either, Opposite}
 use Rattle.region_trees.specs.Terms.{Plus, Minus, Times, Divide, Modulo, Conjunction, Disjunction, Compares, Term, Integer, Literal, Named, Call, Bracket, Signed, Joined, Terms, NoTerms, More, Located}
-use Rattle.region_trees.specs.Statements.{Assignment, Statements, NoStatements, Next, spaced_from}
+use Rattle.region_trees.specs.Statements.{spaced_from}
 use Rattle.region_trees.specs.Regions.{expression_of, bound_of, condition_of, subscripts_of}
 
 abbrev name : List ℕ → ℕ → Term
@@ -131,9 +131,3 @@ no_value = refl
 
 comments_are_spaces : spaced_from 0 (codes "A/**/[i]  = B /* x */ + 1") ≡ codes "A [i] = B + 1"
 comments_are_spaces = refl
-
--- ---- statements
-
--- A[i] = 0; with i at the byte 2
-abbrev write : ℕ → Statements
-write at = Next (Assignment (codes "A[i] = 0;") (record { name = codes "A"; at = at; subscripts = one (at + 2) (name (codes "i") (at + 2)) }) false (located (at + 7) (Integer 0))) NoStatements

@@ -1,1 +1,3 @@
 mod Checks
+mod StatementChecks
+mod TreeChecks
