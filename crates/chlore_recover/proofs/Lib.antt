@@ -13,3 +13,4 @@ pub mod Ranges
 pub mod Unrefused
 pub mod Wide
 pub mod Apart
+pub mod Joins

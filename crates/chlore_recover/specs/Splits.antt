@@ -1,10 +1,14 @@
--- What the fissions of the script's first step do to vectors in beta order.
-use Rattle.std.specs.Prelude.{◌≡◌, ℕ, ◌+◌, ◌<◌, ◌^◌, Some, None, Ok, List, [], ◌∷◌, ◌++◌, length, map}
+-- What the fissions of the script's first step, and the fuses of its last, do to vectors in beta order.
+use Rattle.std.specs.Prelude.{◌≡◌, ℕ, true, ◌+◌, ◌<◌, ◌^◌, Some, None, Ok, List, [], ◌∷◌, ◌++◌, length, map}
 use Rattle.beta_tree.specs.Edits.{fissioned}
 use Rattle.beta_tree.specs.Answers.{fission_answer}
 use Rattle.beta_trails.specs.Trails.{Step, zeros, trail, ranked, Agreeing, AllBelow}
 use Rattle.beta_trails.specs.Laws.{parted_loop}
-use Rattle.chlore_recover.specs.Strategy.{least_wide_loop, all_splits}
+use Rattle.clay_script.specs.declared.commands.Command.{Command}
+use Rattle.clay_script.specs.Commands.{prefix_of}
+use Rattle.clay_commands.specs.Arguments.{are_natural, prefix_in}
+use Rattle.clay_commands.specs.Steps.{IsVectorCommand, vector_answer}
+use Rattle.chlore_recover.specs.Strategy.{least_wide_loop, all_splits, fuses}
 
 -- where neighbours agree in fewer than n entries up to the first that agree in n, theirs is the least loop of length n with two
 -- children; where all agree in fewer than n, there is none
@@ -29,3 +33,16 @@ abbrev pub SplitsLeaveAlone : Type 0
 SplitsLeaveAlone =
     (n m : ℕ) (steps : List Step) → 0 < m → length steps + 1 < 2 ^ 32 → Agreeing m steps → AllBelow (n + 1) steps
     → SplitsLead (all_splits n (trail (zeros m) steps)) (trail (zeros m) steps) (ranked 0 (m ∷ lengths_of steps))
+
+-- commands on vectors alone, none of them refused, lead from V to W
+abbrev pub VectorsLead : List Command → List (List ℕ) → List (List ℕ) → Type 0
+VectorsLead [] V W = V ≡ W
+VectorsLead (command ∷ commands) V W =
+    (U : List (List ℕ)) × IsVectorCommand command × (are_natural (prefix_of command) ≡ true) × (vector_answer command (prefix_in command) V ≡ Ok U)
+    × VectorsLead commands U W
+
+-- the script's fuses lead from vectors that stand alone to the target's, whose neighbours agree in 24 entries at most
+abbrev pub FusesLead : Type 0
+FusesLead =
+    (m : ℕ) (steps : List Step) → 0 < m → length steps + 1 < 2 ^ 32 → Agreeing m steps → AllBelow 25 steps
+    → VectorsLead (fuses (trail (zeros m) steps)) (ranked 0 (m ∷ lengths_of steps)) (trail (zeros m) steps)

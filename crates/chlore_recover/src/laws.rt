@@ -1,6 +1,6 @@
 //! Laws of recoverable levels, each as the contract of a function that does nothing.
 
-ghost use Rattle.chlore_recover.specs.Splits.{LeastIsFirst, SplitsLeaveAlone};
+ghost use Rattle.chlore_recover.specs.Splits.{FusesLead, LeastIsFirst, SplitsLeaveAlone};
 ghost use Rattle.chlore_recover.specs.Laws.{ApartIsFactored, FactoredIsApart, ScriptRecoversLevels, SuitedIsUnrefused};
 
 /// Rows whose last coefficients are signs at places that differ are a signed permutation times a unit lower triangle.
@@ -31,4 +31,9 @@ pub fn least_is_first()
 /// The script's first step is accepted fission by fission, and leaves each statement alone in its loop.
 pub fn splits_leave_alone()
     ensures { SplitsLeaveAlone }
+{}
+
+/// The script's last step is accepted fuse by fuse, and leads from statements that stand alone to the target's vectors.
+pub fn fuses_lead()
+    ensures { FusesLead }
 {}

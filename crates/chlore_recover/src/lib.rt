@@ -4,6 +4,6 @@
 mod laws;
 
 pub use laws::{
-    apart_is_factored, factored_is_apart, least_is_first, script_recovers_levels,
+    apart_is_factored, factored_is_apart, fuses_lead, least_is_first, script_recovers_levels,
     splits_leave_alone, suited_is_unrefused,
 };
