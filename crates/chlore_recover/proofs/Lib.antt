@@ -14,3 +14,4 @@ pub mod Unrefused
 pub mod Wide
 pub mod Apart
 pub mod Joins
+pub mod Orders

@@ -1,14 +1,14 @@
 -- What the fissions of the script's first step, and the fuses of its last, do to vectors in beta order.
 use Rattle.std.specs.Prelude.{◌≡◌, ℕ, true, ◌+◌, ◌<◌, ◌^◌, Some, None, Ok, List, [], ◌∷◌, ◌++◌, length, map}
-use Rattle.beta_tree.specs.Edits.{fissioned}
+use Rattle.beta_tree.specs.Edits.{fissioned, is_permutation_of}
 use Rattle.beta_tree.specs.Answers.{fission_answer}
 use Rattle.beta_trails.specs.Trails.{Step, zeros, trail, ranked, Agreeing, AllBelow}
-use Rattle.beta_trails.specs.Laws.{parted_loop}
+use Rattle.beta_trails.specs.Laws.{parted_loop, placed_from}
 use Rattle.clay_script.specs.declared.commands.Command.{Command}
 use Rattle.clay_script.specs.Commands.{prefix_of}
 use Rattle.clay_commands.specs.Arguments.{are_natural, prefix_in}
 use Rattle.clay_commands.specs.Steps.{IsVectorCommand, vector_answer}
-use Rattle.chlore_recover.specs.Strategy.{least_wide_loop, all_splits, fuses}
+use Rattle.chlore_recover.specs.Strategy.{least_wide_loop, all_splits, fissions, reorder_unless_same, fuses}
 
 -- where neighbours agree in fewer than n entries up to the first that agree in n, theirs is the least loop of length n with two
 -- children; where all agree in fewer than n, there is none
@@ -46,3 +46,15 @@ abbrev pub FusesLead : Type 0
 FusesLead =
     (m : ℕ) (steps : List Step) → 0 < m → length steps + 1 < 2 ^ 32 → Agreeing m steps → AllBelow 25 steps
     → VectorsLead (fuses (trail (zeros m) steps)) (ranked 0 (m ∷ lengths_of steps)) (trail (zeros m) steps)
+
+-- the script's fissions lead from vectors that agree in 24 entries at most to vectors that stand alone
+abbrev pub FissionsLead : Type 0
+FissionsLead =
+    (m : ℕ) (steps : List Step) → 0 < m → length steps + 1 < 2 ^ 32 → Agreeing m steps → AllBelow 25 steps
+    → VectorsLead (fissions (trail (zeros m) steps)) (trail (zeros m) steps) (ranked 0 (m ∷ lengths_of steps))
+
+-- the script's reorder leads from vectors that stand alone to those that stand at their ranks' places in the order
+abbrev pub ReorderLeads : Type 0
+ReorderLeads =
+    (order lengths : List ℕ) → 0 < length lengths → is_permutation_of (length lengths) order ≡ true
+    → VectorsLead (reorder_unless_same order) (ranked 0 lengths) (placed_from 0 order lengths)

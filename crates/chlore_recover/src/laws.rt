@@ -1,6 +1,6 @@
 //! Laws of recoverable levels, each as the contract of a function that does nothing.
 
-ghost use Rattle.chlore_recover.specs.Splits.{FusesLead, LeastIsFirst, SplitsLeaveAlone};
+ghost use Rattle.chlore_recover.specs.Splits.{FissionsLead, FusesLead, LeastIsFirst, ReorderLeads, SplitsLeaveAlone};
 ghost use Rattle.chlore_recover.specs.Laws.{ApartIsFactored, FactoredIsApart, ScriptRecoversLevels, SuitedIsUnrefused};
 
 /// Rows whose last coefficients are signs at places that differ are a signed permutation times a unit lower triangle.
@@ -36,4 +36,14 @@ pub fn splits_leave_alone()
 /// The script's last step is accepted fuse by fuse, and leads from statements that stand alone to the target's vectors.
 pub fn fuses_lead()
     ensures { FusesLead }
+{}
+
+/// The fissions, as commands, are accepted one by one, and leave each statement alone in its loop.
+pub fn fissions_lead()
+    ensures { FissionsLead }
+{}
+
+/// The reorder is accepted, and gives each statement its rank's place in the order; none is needed where that is its rank.
+pub fn reorder_leads()
+    ensures { ReorderLeads }
 {}
