@@ -20,8 +20,8 @@ use std::alloc::Global;
 use suite_base::{Fail, NoMemory, Refusal, Where};
 
 /// Whether the rows that `count` systems share are found to have no rational point, so that none of
-/// the systems has one. A single system is not worth the question, and a limit that is met on the
-/// shared rows alone leaves it open: both answer false.
+/// the systems has one. For fewer than three systems the question costs what it saves, and a limit
+/// that is met on the shared rows alone leaves it open: both answer false.
 pub fn is_empty(
     alloc: Global,
     shared: &Reduced<SparseRow>,
@@ -31,7 +31,7 @@ pub fn is_empty(
     requires { shared.now ≡ part.now }
     ensures { IfOk result (λ empty. IsKnown part.now empty) }
 {
-    if count < 2 {
+    if count < 3 {
         return Ok(false);
     }
     match decide_with::<SparseRow>(alloc, shared, part) {
