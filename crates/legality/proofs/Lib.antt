@@ -11,4 +11,5 @@ pub mod ReadyEntries
 pub mod Answered
 pub mod ViolationRows
 pub mod EmptyBases
+pub mod FewLevels
 pub mod ScriptEdits

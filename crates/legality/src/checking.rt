@@ -1,7 +1,6 @@
 //! The decision of all violations, in their order.
 
-ghost use Rattle.std.specs.Prelude.{◌≡◌, ◌+◌, ◌<◌, ◌^◌, IfOk, IfErr};
-ghost use Rattle.suite_base.specs.declared.refusals.Fail.TheVariants.{Memory};
+ghost use Rattle.std.specs.Prelude.{◌≡◌, ◌+◌, ◌<◌, ◌≤◌, ◌^◌, length, IfOk};
 ghost use Rattle.scop_core.specs.Sequences.{In};
 ghost use Rattle.dependence_systems.specs.Systems.{system_weight};
 ghost use Rattle.legality.specs.Answers.{IsAnswer, IsKnown, IsSaid};
@@ -23,18 +22,12 @@ use scop_core::Scop;
 use std::alloc::Global;
 use suite_base::{Fail, List, NoMemory, Refusal, Where};
 
-// The number after these many; numbers of 2^32 and more are wanting like memory.
-fn number_after(number: u32, count: usize) -> Result<u32, Fail>
-    ensures answer { IfOk result (λ next. next ≡ number + count) }
-    ensures cause { IfErr result (λ fail. fail ≡ Memory) }
+// The number after these many.
+fn number_after(number: u32, count: usize) -> u32
+    requires { number + count < 2 ^ 32 }
+    ensures { result ≡ number + count }
 {
-    match u32::try_from(count) {
-        Ok(count) => match number.checked_add(count) {
-            Some(next) => Ok(next),
-            None => Err(Fail::Memory),
-        },
-        Err(_) => Err(Fail::Memory),
-    }
+    number + count as u32
 }
 
 // Decides the violations of one dependence, of which `part` is the system over the floors of the new
@@ -57,11 +50,12 @@ fn decide_levels(
     requires known { IsKnown (shared_system (edit_of scop.now edited.now) dep.now) empty }
     requires light { system_weight (shared_pairing (edit_of scop.now edited.now) dep.now) dep.now.level < 2 ^ 127 }
     requires levels { levels.now ≡ new_levels (edit_of scop.now edited.now) dep.now }
+    requires room { before + length levels.now < 2 ^ 32 }
     ensures { IsSaid (edit_of scop.now edited.now) (before + 1) (violations_of (edit_of scop.now edited.now) dep.now) result }
 {
     let mut number = before;
     for level in levels {
-        number = number_after(number, 1)?;
+        number = number_after(number, 1);
         if decide_violation(
             alloc, scop, edited, dep, shared, empty, part, *level, number,
         )? {
@@ -84,12 +78,13 @@ fn decide_entry(
     requires edit { IsEdit (edit_of scop.now edited.now) }
     requires listed { In dep.now (dependences (edit_of scop.now edited.now)) }
     requires levels { levels.now ≡ new_levels (edit_of scop.now edited.now) dep.now }
+    requires room { before + length levels.now < 2 ^ 32 }
     ensures { IsSaid (edit_of scop.now edited.now) (before + 1) (violations_of (edit_of scop.now edited.now) dep.now) result }
 {
     if levels.len() == 0 {
         return Ok(Legal::Yes);
     }
-    let first = number_after(before, 1)?;
+    let first = number_after(before, 1);
     match shared_part(alloc, scop, edited, dep) {
         Ok(part) => {
             let mut part = part;
@@ -129,6 +124,7 @@ fn entry_levels(
 fn decide_entries(alloc: Global, scop: &Scop, edited: &Edited, list: &[Dep]) -> Result<Legal, Fail>
     requires edit { IsEdit (edit_of scop.now edited.now) }
     requires listed { list.now ≡ dependences (edit_of scop.now edited.now) }
+    requires few { length list.now ≤ 65536 }
     ensures { IsSaid (edit_of scop.now edited.now) 1 (violations (edit_of scop.now edited.now)) result }
 {
     let mut number = 0;
@@ -139,7 +135,7 @@ fn decide_entries(alloc: Global, scop: &Scop, edited: &Edited, list: &[Dep]) -> 
             Legal::Yes => {}
             Legal::Illegal(k) => return Ok(Legal::Illegal(k)),
         }
-        number = number_after(number, levels.len())?;
+        number = number_after(number, levels.len());
     }
     Ok(Legal::Yes)
 }
