@@ -1,3 +1,4 @@
 mod Checks
 mod StatementChecks
 mod TreeChecks
+mod TextChecks
