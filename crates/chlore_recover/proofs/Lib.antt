@@ -15,3 +15,4 @@ pub mod Wide
 pub mod Apart
 pub mod Joins
 pub mod Orders
+pub mod Members

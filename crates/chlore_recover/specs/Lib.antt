@@ -5,4 +5,5 @@ pub mod LevelScripts
 pub mod Runs
 pub mod Strategy
 pub mod Splits
+pub mod Drafted
 pub mod Laws

@@ -1,5 +1,6 @@
 //! Laws of recoverable levels, each as the contract of a function that does nothing.
 
+ghost use Rattle.chlore_recover.specs.Drafted.{LeavesAreLed};
 ghost use Rattle.chlore_recover.specs.Splits.{FissionsLead, FusesLead, LeastIsFirst, ReorderLeads, SplitsLeaveAlone};
 ghost use Rattle.chlore_recover.specs.Laws.{ApartIsFactored, FactoredIsApart, ScriptRecoversLevels, SuitedIsUnrefused};
 
@@ -46,4 +47,9 @@ pub fn fissions_lead()
 /// The reorder is accepted, and gives each statement its rank's place in the order; none is needed where that is its rank.
 pub fn reorder_leads()
     ensures { ReorderLeads }
+{}
+
+/// Commands on vectors alone that lead from a tree are accepted for leaves with its vectors in any order, and move each leaf alike.
+pub fn leaves_are_led()
+    ensures { LeavesAreLed }
 {}
