@@ -16,3 +16,4 @@ pub mod Apart
 pub mod Joins
 pub mod Orders
 pub mod Members
+pub mod Leveled

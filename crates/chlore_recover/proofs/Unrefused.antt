@@ -34,7 +34,7 @@ most_under_is P number B (leaf ∷ D) some (h, more) =
       | false ↦ λ e. omega arith
     ] refl
 
-under_map : (P : List ℕ) (A B : Statement → Type 0) (D : Draft) → ((s : Statement) → A s → B s) → AllUnder P A D → AllUnder P B D
+pub under_map : (P : List ℕ) (A B : Statement → Type 0) (D : Draft) → ((s : Statement) → A s → B s) → AllUnder P A D → AllUnder P B D
 under_map P A B [] f h = tt
 under_map P A B (leaf ∷ D) f (h, more) = ((λ e. f leaf.statement (h e)), under_map P A B D f more)
 

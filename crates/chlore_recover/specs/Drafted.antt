@@ -1,8 +1,15 @@
--- What commands on vectors alone do to drafts whose vectors are those of a tree, in any order.
-use Rattle.std.specs.Prelude.{◌≡◌, ℕ, None, List, [], ◌∷◌, map}
-use Rattle.beta_tree.specs.Vectors.{In, IsTree}
+-- What the script's commands do to drafts: those on vectors to leaves in any order, those on levels to the leaves under their prefix.
+use Rattle.std.specs.Prelude.{◌≡◌, ℤ, ℕ, true, false, if◌then◌else◌, None, List, [], ◌∷◌, map}
+use Rattle.beta_tree.specs.Vectors.{In, IsTree, no_statement}
 use Rattle.clay_script.specs.declared.commands.Command.{Command}
-use Rattle.clay_commands.specs.Drafts.{Draft, betas_of, with_beta, vector_after, drafts_after}
+use Rattle.clay_script.specs.Commands.{prefix_of}
+use Rattle.scop_core.specs.declared.schedules.Schedule.{Schedule}
+use Rattle.clay_commands.specs.declared.leaves.Leaf.{Leaf}
+use Rattle.clay_commands.specs.Arguments.{natural, are_natural}
+use Rattle.clay_commands.specs.Drafts.{Draft, betas_of, is_under, scheduled, with_beta, vector_after, drafts_after}
+use Rattle.clay_commands.specs.Steps.{AllUnder, IsPlainCommand}
+use Rattle.chlore_recover.specs.LevelScripts.{forms_along}
+use Rattle.chlore_recover.specs.Runs.{Runs}
 use Rattle.clay_commands.specs.Refusals.{first_refusal}
 use Rattle.chlore_recover.specs.Splits.{VectorsLead}
 
@@ -23,3 +30,24 @@ LeavesAreLed =
     (parameters i : ℕ) (script : List Command) (D : Draft) (W U : List (List ℕ)) → IsTree W → HaveSame (betas_of D) W → VectorsLead script W U
     → (first_refusal parameters i script D ≡ None) × (drafts_after script D ≡ map (λ leaf. with_beta (vector_along script W leaf.beta) leaf) D)
     × (U ≡ map (vector_along script W) W)
+
+-- each command edits levels under the prefix p
+abbrev pub AreLevelsUnder : List ℤ → List Command → Type 0
+AreLevelsUnder p [] = Unit {0}
+AreLevelsUnder p (command ∷ commands) = IsPlainCommand command × (prefix_of command ≡ p) × AreLevelsUnder p commands
+
+-- no command of these is refused for a schedule
+abbrev pub IsTaken : ℕ → List Command → Schedule → Type 0
+IsTaken parameters commands schedule = Runs parameters commands schedule (forms_along commands schedule)
+
+-- a leaf under P with what commands make of its floors and levels
+abbrev pub leveled : List Command → List ℕ → Leaf → Leaf
+leveled commands P leaf =
+    if is_under P leaf.beta then record leaf { statement = scheduled leaf.statement (forms_along commands leaf.statement.schedule) } else leaf
+
+-- commands on levels under one prefix, which has statements, are not refused where none is for any of these, and change each of them alike
+abbrev pub LevelsAreLed : Type 0
+LevelsAreLed =
+    (parameters i : ℕ) (p : List ℤ) (script : List Command) (D : Draft) → are_natural p ≡ true → no_statement (map natural p) (betas_of D) ≡ false
+    → AreLevelsUnder p script → AllUnder (map natural p) (λ s. IsTaken parameters script s.schedule) D
+    → (first_refusal parameters i script D ≡ None) × (drafts_after script D ≡ map (leveled script (map natural p)) D)

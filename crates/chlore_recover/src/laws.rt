@@ -1,6 +1,6 @@
 //! Laws of recoverable levels, each as the contract of a function that does nothing.
 
-ghost use Rattle.chlore_recover.specs.Drafted.{LeavesAreLed};
+ghost use Rattle.chlore_recover.specs.Drafted.{LeavesAreLed, LevelsAreLed};
 ghost use Rattle.chlore_recover.specs.Splits.{FissionsLead, FusesLead, LeastIsFirst, ReorderLeads, SplitsLeaveAlone};
 ghost use Rattle.chlore_recover.specs.Laws.{ApartIsFactored, FactoredIsApart, ScriptRecoversLevels, SuitedIsUnrefused};
 
@@ -52,4 +52,9 @@ pub fn reorder_leads()
 /// Commands on vectors alone that lead from a tree are accepted for leaves with its vectors in any order, and move each leaf alike.
 pub fn leaves_are_led()
     ensures { LeavesAreLed }
+{}
+
+/// Commands on levels that are accepted for each statement under their prefix are accepted for all leaves, and change those alone.
+pub fn levels_are_led()
+    ensures { LevelsAreLed }
 {}
