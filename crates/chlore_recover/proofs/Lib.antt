@@ -17,3 +17,4 @@ pub mod Joins
 pub mod Orders
 pub mod Members
 pub mod Leveled
+pub mod Taken

@@ -1,15 +1,18 @@
 -- What the script's commands do to drafts: those on vectors to leaves in any order, those on levels to the leaves under their prefix.
-use Rattle.std.specs.Prelude.{◌≡◌, ℤ, ℕ, true, false, if◌then◌else◌, None, List, [], ◌∷◌, map}
+use Rattle.std.specs.Prelude.{◌≡◌, ℤ, ℕ, true, false, if◌then◌else◌, None, List, [], ◌∷◌, length, map}
 use Rattle.beta_tree.specs.Vectors.{In, IsTree, no_statement}
 use Rattle.clay_script.specs.declared.commands.Command.{Command}
 use Rattle.clay_script.specs.Commands.{prefix_of}
+use Rattle.scop_core.specs.declared.affines.Affine.{Affine}
 use Rattle.scop_core.specs.declared.schedules.Schedule.{Schedule}
 use Rattle.clay_commands.specs.declared.leaves.Leaf.{Leaf}
 use Rattle.clay_commands.specs.Arguments.{natural, are_natural}
 use Rattle.clay_commands.specs.Drafts.{Draft, betas_of, is_under, scheduled, with_beta, vector_after, drafts_after}
 use Rattle.clay_commands.specs.Steps.{AllUnder, IsPlainCommand}
-use Rattle.chlore_recover.specs.LevelScripts.{forms_along}
-use Rattle.chlore_recover.specs.Runs.{Runs}
+use Rattle.chlore_recover.specs.Triangles.{Signed, IsFactored}
+use Rattle.chlore_recover.specs.Recoverable.{rows_of, AreClansFrom}
+use Rattle.chlore_recover.specs.LevelScripts.{forms_along, level_script}
+use Rattle.chlore_recover.specs.Runs.{at_levels, Runs, AllSmall, AreForms}
 use Rattle.clay_commands.specs.Refusals.{first_refusal}
 use Rattle.chlore_recover.specs.Splits.{VectorsLead}
 
@@ -51,3 +54,11 @@ LevelsAreLed =
     (parameters i : ℕ) (p : List ℤ) (script : List Command) (D : Draft) → are_natural p ≡ true → no_statement (map natural p) (betas_of D) ≡ false
     → AreLevelsUnder p script → AllUnder (map natural p) (λ s. IsTaken parameters script s.schedule) D
     → (first_refusal parameters i script D ≡ None) × (drafts_after script D ≡ map (leveled script (map natural p)) D)
+
+-- the commands for one statement's levels are of this kind, are taken, and make the target's levels
+abbrev pub LevelScriptIsTaken : Type 0
+LevelScriptIsTaken =
+    (parameters : ℕ) (p : List ℤ) (schedule : Schedule) (original target : List Affine) (P : Signed) (L : List (List ℤ))
+    → AreClansFrom parameters 0 (length target) original → IsFactored (length target) P L (rows_of target) → AllSmall (rows_of target) → AreForms parameters target
+    → AreLevelsUnder p (level_script p original target) × IsTaken parameters (level_script p original target) (at_levels schedule original)
+    × (forms_along (level_script p original target) (at_levels schedule original) ≡ at_levels schedule target)

@@ -1,6 +1,6 @@
 //! Laws of recoverable levels, each as the contract of a function that does nothing.
 
-ghost use Rattle.chlore_recover.specs.Drafted.{LeavesAreLed, LevelsAreLed};
+ghost use Rattle.chlore_recover.specs.Drafted.{LeavesAreLed, LevelScriptIsTaken, LevelsAreLed};
 ghost use Rattle.chlore_recover.specs.Splits.{FissionsLead, FusesLead, LeastIsFirst, ReorderLeads, SplitsLeaveAlone};
 ghost use Rattle.chlore_recover.specs.Laws.{ApartIsFactored, FactoredIsApart, ScriptRecoversLevels, SuitedIsUnrefused};
 
@@ -57,4 +57,9 @@ pub fn leaves_are_led()
 /// Commands on levels that are accepted for each statement under their prefix are accepted for all leaves, and change those alone.
 pub fn levels_are_led()
     ensures { LevelsAreLed }
+{}
+
+/// The script for one statement's levels is of commands on levels under its prefix, is accepted, and makes the target's levels.
+pub fn level_script_is_taken()
+    ensures { LevelScriptIsTaken }
 {}
