@@ -230,6 +230,11 @@ def draw_command(draw, edit):
     name = draw.choice("fission fission fuse fuse reorder interchange skew shift reverse stripmine tile iss".split())
     whole = name == "iss" and draw.random() < 0.85
     prefix = it.betas[: len(it.betas) if whole else draw.randrange(len(it.betas) + 1)]
+    loops = [each.betas[:k] for each in edit.scop.statements for k in range(1, len(each.betas))]
+    if name == "fission":
+        prefix = draw.choice([each for each in loops if len(edit.children(each)) > 1] or [prefix])
+    if name == "fuse":
+        prefix = draw.choice([each for each in loops if edit.is_loop(each[:-1] + [each[-1] + 1])] or [prefix])
     prefix = prefix + ([draw.choice([0, 1, -1, 7])] if draw.random() < 0.07 else [])
     levels = len(it.levels)
     level = lambda: draw.randint(1, max(levels, 1)) if draw.random() < 0.93 else draw.choice([0, levels + 1, -1])
