@@ -1,5 +1,5 @@
 -- The region that statements stand for, or the place of the first subscript, start, bound, condition or step that breaks the rules.
-use Rattle.std.specs.Prelude.{ℕ, List, [], ◌∷◌, ◌++◌, ℤ, unsigned_abs, Bool, true, false, cond, ◌&&◌, ◌||◌, nat_le, bytes_eq, Option, Some, None, Result, Ok, Err, codes}
+use Rattle.std.specs.Prelude.{ℕ, List, [], ◌∷◌, ◌++◌, ℤ, pos, negsuc, unsigned_abs, int_le, Bool, true, false, cond, ◌&&◌, ◌||◌, nat_eq, bytes_eq, Option, Some, None, Result, Ok, Err, codes}
 use Rattle.c_parser.specs.declared.tree.UnarySign.{UnarySign}
 use Rattle.c_parser.specs.declared.tree.UnarySign.TheVariants as un
 use Rattle.clan_extract.specs.Regions.{Expression, Number, Name, Sum, Difference, Product, Negation, Maximum, Minimum, Ceiling, Floor, Remainder, Comparison, IsLess, IsLessOrEqual, IsGreater, IsGreaterOrEqual, IsEqual, IsUnequal, Condition, Compare, Both, Either, Opposite, Reference, Node, For, If, Assign, Nodes, NoNodes, Then}
@@ -180,15 +180,25 @@ is_downward IsGreater = true
 is_downward IsGreaterOrEqual = true
 is_downward comparison = false
 
+-- the size of the step is 0 or 1
+abbrev pub is_short : ℤ → Bool
+is_short step = nat_eq (unsigned_abs step) 0 || nat_eq (unsigned_abs step) 1
+
 -- an upward loop begins with a lower bound, a downward one with an upper bound, and one with a step of at least 2 with an affine value
 abbrev pub is_start : Comparison → ℤ → Expression → Bool
-is_start comparison step e = cond (is_downward comparison) (is_upper_bound e) (is_lower_bound e) && (nat_le (unsigned_abs step) 1 || is_affine e)
+is_start comparison step e = cond (is_downward comparison) (is_upper_bound e) (is_lower_bound e) && (is_short step || is_affine e)
 
 abbrev pub is_bound : Comparison → Expression → Bool
 is_bound comparison e = cond (is_downward comparison) (is_lower_bound e) (is_upper_bound e)
 
-abbrev pub is_step : ℤ → Bool
-is_step step = nat_le 1 (unsigned_abs step)
+-- the step goes toward the bound; a step of 0 does not
+abbrev pub is_step : Comparison → ℤ → Bool
+is_step IsLess step = int_le (pos 1) step
+is_step IsLessOrEqual step = int_le (pos 1) step
+is_step IsGreater step = int_le step (negsuc 0)
+is_step IsGreaterOrEqual step = int_le step (negsuc 0)
+is_step IsEqual step = false
+is_step IsUnequal step = false
 
 abbrev pub start_of : Comparison → ℤ → Located → Result Expression ℕ
 start_of comparison step x = passed (is_start comparison step) x.at (bound_of x.term)
@@ -205,7 +215,7 @@ for_of name comparison start bound step body =
 abbrev mutual
   pub node_of : Statement → Result Node ℕ
   node_of (Loop name at start comparison bound step step_at body) =
-      for_of name comparison (start_of comparison step start) (limit_of comparison bound) (passed is_step step_at (Some step)) (nodes_of body)
+      for_of name comparison (start_of comparison step start) (limit_of comparison bound) (passed (is_step comparison) step_at (Some step)) (nodes_of body)
   node_of (Branch condition then_statements else_statements) =
       result_map2 (λ c. λ (branches : Nodes × Nodes). If c branches.0 branches.1) (passed is_condition condition.at (condition_of condition.term))
       (result_map2 (λ t e. (t, e)) (nodes_of then_statements) (nodes_of else_statements))
