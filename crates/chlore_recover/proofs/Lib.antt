@@ -18,3 +18,4 @@ pub mod Orders
 pub mod Members
 pub mod Leveled
 pub mod Taken
+pub mod Rises

@@ -6,4 +6,5 @@ pub mod Runs
 pub mod Strategy
 pub mod Splits
 pub mod Drafted
+pub mod Orders
 pub mod Laws

@@ -1,6 +1,7 @@
 //! Laws of recoverable levels, each as the contract of a function that does nothing.
 
 ghost use Rattle.chlore_recover.specs.Drafted.{LeavesAreLed, LevelScriptIsTaken, LevelsAreLed};
+ghost use Rattle.chlore_recover.specs.Orders.{OrderedRises};
 ghost use Rattle.chlore_recover.specs.Splits.{FissionsLead, FusesLead, LeastIsFirst, ReorderLeads, SplitsLeaveAlone};
 ghost use Rattle.chlore_recover.specs.Laws.{ApartIsFactored, FactoredIsApart, ScriptRecoversLevels, SuitedIsUnrefused};
 
@@ -62,4 +63,9 @@ pub fn levels_are_led()
 /// The script for one statement's levels is of commands on levels under its prefix, is accepted, and makes the target's levels.
 pub fn level_script_is_taken()
     ensures { LevelScriptIsTaken }
+{}
+
+/// Statements in beta order have their tree's vectors, in rising order.
+pub fn ordered_rises()
+    ensures { OrderedRises }
 {}
