@@ -19,3 +19,4 @@ pub mod Members
 pub mod Leveled
 pub mod Taken
 pub mod Rises
+pub mod Awaits

@@ -65,7 +65,7 @@ shifts_are p k (form ∷ target) =
     are_both p (if is_zero form.parameters && int_eq form.constant (pos 0) then [] else Shift p (pos k) form.parameters form.constant ∷ []) (shifts p (k + 1) target)
     (none_where p (is_zero form.parameters && int_eq form.constant (pos 0)) (Shift p (pos k) form.parameters form.constant) tt refl) (shifts_are p (k + 1) target)
 
-script_is : (p : List ℤ) (original target : List Affine) → AreLevelsUnder p (level_script p original target)
+pub script_is : (p : List ℤ) (original target : List Affine) → AreLevelsUnder p (level_script p original target)
 script_is p original target =
     let rows : List (List ℤ) = rows_of target in
     let places : List ℕ = range_with_len 0 (length target) in

@@ -1,5 +1,5 @@
 -- What the script's commands do to drafts: those on vectors to leaves in any order, those on levels to the leaves under their prefix.
-use Rattle.std.specs.Prelude.{◌≡◌, ℤ, ℕ, true, false, if◌then◌else◌, None, List, [], ◌∷◌, length, map}
+use Rattle.std.specs.Prelude.{◌≡◌, ◌+◌, ℤ, pos, ℕ, true, false, if◌then◌else◌, None, List, [], ◌∷◌, length, map}
 use Rattle.beta_tree.specs.Vectors.{In, IsTree, no_statement}
 use Rattle.clay_script.specs.declared.commands.Command.{Command}
 use Rattle.clay_script.specs.Commands.{prefix_of}
@@ -14,6 +14,8 @@ use Rattle.chlore_recover.specs.Recoverable.{rows_of, AreClansFrom}
 use Rattle.chlore_recover.specs.LevelScripts.{forms_along, level_script}
 use Rattle.chlore_recover.specs.Runs.{at_levels, Runs, AllSmall, AreForms}
 use Rattle.clay_commands.specs.Refusals.{first_refusal}
+use Rattle.scop_core.specs.ScopData.{ScopData}
+use Rattle.chlore_recover.specs.Strategy.{Placed, levels_in, all_levels}
 use Rattle.chlore_recover.specs.Splits.{VectorsLead}
 
 -- two lists have the same members
@@ -62,3 +64,25 @@ LevelScriptIsTaken =
     → AreClansFrom parameters 0 (length target) original → IsFactored (length target) P L (rows_of target) → AllSmall (rows_of target) → AreForms parameters target
     → AreLevelsUnder p (level_script p original target) × IsTaken parameters (level_script p original target) (at_levels schedule original)
     × (forms_along (level_script p original target) (at_levels schedule original) ≡ at_levels schedule target)
+
+-- the script for the levels of the statement e, which stands in the loop r
+abbrev pub script_at : ScopData → ScopData → ℕ → Placed → List Command
+script_at O T r e = level_script (pos r ∷ []) (levels_in O e.0) (levels_in T e.0)
+
+-- the loops from r on have statements, and no command for the levels of the statement that stands there is refused for them
+abbrev pub Await : ℕ → ScopData → ScopData → ℕ → List Placed → Draft → Type 0
+Await parameters O T r [] D = Unit {0}
+Await parameters O T r (e ∷ placed) D =
+    (no_statement (r ∷ []) (betas_of D) ≡ false) × AllUnder (r ∷ []) (λ s. IsTaken parameters (script_at O T r e) s.schedule) D
+    × Await parameters O T (r + 1) placed D
+
+-- a leaf with the levels that the scripts for the loops from r on give it
+abbrev pub leveled_from : ScopData → ScopData → ℕ → List Placed → Leaf → Leaf
+leveled_from O T r [] leaf = leaf
+leveled_from O T r (e ∷ placed) leaf = leveled_from O T (r + 1) placed (leveled (script_at O T r e) (r ∷ []) leaf)
+
+-- then the scripts for all these levels, one after the other, are not refused, and change each leaf by the one for its loop
+abbrev pub AllLevelsAreLed : Type 0
+AllLevelsAreLed =
+    (parameters i r : ℕ) (O T : ScopData) (placed : List Placed) (D : Draft) → Await parameters O T r placed D
+    → (first_refusal parameters i (all_levels O T r placed) D ≡ None) × (drafts_after (all_levels O T r placed) D ≡ map (leveled_from O T r placed) D)

@@ -1,6 +1,6 @@
 //! Laws of recoverable levels, each as the contract of a function that does nothing.
 
-ghost use Rattle.chlore_recover.specs.Drafted.{LeavesAreLed, LevelScriptIsTaken, LevelsAreLed};
+ghost use Rattle.chlore_recover.specs.Drafted.{AllLevelsAreLed, LeavesAreLed, LevelScriptIsTaken, LevelsAreLed};
 ghost use Rattle.chlore_recover.specs.Orders.{OrderedRises};
 ghost use Rattle.chlore_recover.specs.Splits.{FissionsLead, FusesLead, LeastIsFirst, ReorderLeads, SplitsLeaveAlone};
 ghost use Rattle.chlore_recover.specs.Laws.{ApartIsFactored, FactoredIsApart, ScriptRecoversLevels, SuitedIsUnrefused};
@@ -68,4 +68,9 @@ pub fn level_script_is_taken()
 /// Statements in beta order have their tree's vectors, in rising order.
 pub fn ordered_rises()
     ensures { OrderedRises }
+{}
+
+/// The scripts for the levels of statements that stand alone are accepted one after the other, and each changes its own statement.
+pub fn all_levels_are_led()
+    ensures { AllLevelsAreLed }
 {}
