@@ -1,4 +1,5 @@
-//! Times of the certificate check, of the elimination, and of lexing and parsing C, on standard error.
+//! Times of the certificate check, of the elimination, of the commands of a script, and of lexing and parsing C, on
+//! standard error.
 //! Standard output says only that the runs ended, so that it is always the same.
 #![tactic(auto)]
 
@@ -7,12 +8,14 @@ mod nests;
 mod regions;
 mod rows;
 mod runs;
+mod scripts;
 mod systems;
 mod times;
 
 use nests::product;
 use regions::{assignments, statement_count, token_count};
 use runs::{level_times, nest_totals};
+use scripts::script_time;
 use std::process::Abort;
 use std::test::Fail;
 use std::time::Instant;
@@ -53,6 +56,14 @@ fn main(rt: HostRuntime) -> Result<(), Fail> {
         "1,000 nests: {} with a point, {} empty, {} past a limit",
         t.points, t.empty, t.limits
     )?;
+    for count in [1, 32, 1_024] {
+        let spent = script_time(&rt, rt.alloc(), count)?;
+        eprintln!(rt;
+            "4,096 commands on {count} statements: {} us",
+            spent / 1_000
+        )?;
+    }
+
     let text = assignments(rt.alloc())?;
     let start = Instant::now(&rt)?;
     let tokens = token_count(&text);

@@ -1,0 +1,68 @@
+//! A long script on a SCoP of many statements, which is timed through the commands.
+
+use clay_commands::apply;
+use clay_script::read_script;
+use itoa::Buffer;
+use scop_reader::read_scop;
+use std::alloc::Global;
+use std::test::Fail;
+use std::time::{Clock, Instant};
+use suite_base::{NoMemory, Text};
+
+const COMMANDS: usize = 4_096;
+
+/// The most bytes of a text that is read.
+const LONGEST: usize = 16_777_216;
+
+/// Two commands that each change all statements, and leave their numbers small.
+const PAIR: &[u8] = b"shift([], 1, [], 1);\nshift([], 1, [], -1);\n";
+
+const STATEMENT: &[u8] = b"1\nDOMAIN\n1 3 1 0 0 0\n1 1 0\nSCATTERING\n3 6 3 1 0 0\n0 -1 0 0 0 ";
+
+const STATEMENT_END: &[u8] = b"\n0 0 -1 0 1 0\n0 0 0 -1 0 0\n0\n";
+
+// A script of 4,096 commands.
+fn long_script(alloc: Global) -> Result<Text, NoMemory> {
+    let mut text = Text::new(alloc);
+    for _ in 0..COMMANDS / 2 {
+        text.push_bytes(PAIR)?;
+    }
+    Ok(text)
+}
+
+// A SCoP of so many statements, each in a loop of its own.
+fn loops(alloc: Global, count: u32) -> Result<Text, NoMemory> {
+    let mut digits = Buffer::new();
+    let mut text = Text::new(alloc);
+    text.push_bytes(b"<OpenScop>\nC\nCONTEXT\n0 2 0 0 0 0\n0\n")?;
+    text.push_bytes(digits.format(count).as_bytes())?;
+    text.push(b'\n')?;
+    for k in 0..count {
+        text.push_bytes(STATEMENT)?;
+        text.push_bytes(digits.format(k).as_bytes())?;
+        text.push_bytes(STATEMENT_END)?;
+    }
+    text.push_bytes(b"</OpenScop>\n")?;
+    Ok(text)
+}
+
+/// The time in which 4,096 commands are carried out on so many statements, in nanoseconds; 0 where a text or a command
+/// is refused.
+pub fn script_time(clock: &impl Clock, alloc: Global, count: u32) -> Result<u128, Fail> {
+    let script = long_script(alloc)?;
+    let scop = loops(alloc, count)?;
+    if script.bytes().len() > LONGEST || scop.bytes().len() > LONGEST {
+        return Ok(0);
+    }
+    let Ok(script) = read_script(alloc, script.bytes()) else {
+        return Ok(0);
+    };
+    let Ok(scop) = read_scop(alloc, scop.bytes()) else {
+        return Ok(0);
+    };
+    let start = Instant::now(clock)?;
+    if apply(alloc, &scop, &script).is_err() {
+        return Ok(0);
+    }
+    Ok(start.elapsed(clock)?.as_nanos())
+}
