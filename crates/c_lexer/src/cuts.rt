@@ -8,32 +8,35 @@ ghost use Rattle.c_lexer.specs.Tokens as spec;
 use crate::tokens::TokenKind;
 use suite_base::is_blank_byte;
 
-/// The byte at place `at`, or 0 past the end.
+// The byte at place `at`, or 0 past the end.
 fn byte(text: &[u8], at: usize) -> u8
     ensures { result ≡ slice_index text.now at }
 {
     if at < text.len() { text[at] } else { 0 }
 }
 
+// Whether a byte is a blank or a newline.
 fn is_space(b: u8) -> bool
     ensures { result ≡ spec.is_space b }
 {
     is_blank_byte(b) || b == b'\n'
 }
 
+// Whether a byte is a letter, a digit or `_`.
 fn is_word(b: u8) -> bool
     ensures { result ≡ spec.is_word b }
 {
     b.is_ascii_alphanumeric() || b == b'_'
 }
 
+// Whether a byte begins a name.
 fn begins_name(b: u8) -> bool
     ensures { result ≡ spec.begins_name b }
 {
     b.is_ascii_alphabetic() || b == b'_'
 }
 
-/// How many blanks and newlines begin `text`.
+// How many blanks and newlines begin `text`.
 fn spaces_len(text: &[u8]) -> usize
     ensures value { result ≡ prefix_len spec.is_space text.now }
     ensures within { result ≤ length text.now }
@@ -41,7 +44,7 @@ fn spaces_len(text: &[u8]) -> usize
     text.iter().take_while(|b| is_space(**b)).count()
 }
 
-/// How many bytes the first line of `text` has.
+// How many bytes the first line of `text` has.
 fn line_len(text: &[u8]) -> usize
     ensures value { result ≡ prefix_len (λ b. not (b == 10)) text.now }
     ensures within { result ≤ length text.now }
@@ -49,7 +52,7 @@ fn line_len(text: &[u8]) -> usize
     text.iter().take_while(|b| **b != b'\n').count()
 }
 
-/// How many letters, digits and `_` begin `text`.
+// How many letters, digits and `_` begin `text`.
 fn word_len(text: &[u8]) -> usize
     ensures value { result ≡ prefix_len spec.is_word text.now }
     ensures within { result ≤ length text.now }
@@ -57,7 +60,7 @@ fn word_len(text: &[u8]) -> usize
     text.iter().take_while(|b| is_word(**b)).count()
 }
 
-/// How many bytes `text` has up to and with its first `*/`.
+// How many bytes `text` has up to and with its first `*/`.
 fn past_close(text: &[u8]) -> Option<usize>
     ensures value { result ≡ spec.past_close text.now }
     ensures within { IfSome result (λ n. n ≤ length text.now) }
@@ -70,7 +73,7 @@ fn past_close(text: &[u8]) -> Option<usize>
     None
 }
 
-/// How long the separator at the front of `text` is, 0 where none stands there.
+// How long the separator at the front of `text` is, 0 where none stands there.
 fn separator_len(text: &[u8]) -> usize
     ensures value { result ≡ spec.separator_len text.now }
     ensures within { result ≤ length text.now }
@@ -107,6 +110,7 @@ pub fn gap(text: &[u8]) -> usize
     }
 }
 
+// Whether a number begins here: with a digit, or with `.` and a digit.
 fn begins_number(text: &[u8]) -> bool
     ensures { result ≡ spec.begins_number text.now }
 {
@@ -114,13 +118,14 @@ fn begins_number(text: &[u8]) -> bool
     first.is_ascii_digit() || (first == b'.' && byte(text, 1).is_ascii_digit())
 }
 
-/// Whether a number goes on with `b` after the byte `before`.
+// Whether a number goes on with `b` after the byte `before`.
 fn goes_on(before: u8, b: u8) -> bool
     ensures { result ≡ spec.goes_on before b }
 {
     is_word(b) || b == b'.' || (b"+-".contains(&b) && b"eE".contains(&before))
 }
 
+// How many bytes at the front belong to a number.
 fn number_len(text: &[u8]) -> usize
     ensures value { result ≡ spec.number_len 0 text.now }
     ensures within { result ≤ length text.now }
@@ -135,18 +140,21 @@ fn number_len(text: &[u8]) -> usize
     text.len()
 }
 
+// Whether all bytes are digits.
 fn are_digits(text: &[u8]) -> bool
     ensures { result ≡ list_all is_ascii_digit text.now }
 {
     text.iter().all(|b| b.is_ascii_digit())
 }
 
+// Whether a number is an Integer: `0`, or digits of which the first is not 0.
 fn is_integer(text: &[u8]) -> bool
     ensures { result ≡ spec.is_integer text.now }
 {
     are_digits(text) && (byte(text, 0) != b'0' || text.len() == 1)
 }
 
+// The kind of a number.
 fn number_kind(text: &[u8]) -> TokenKind
     ensures { result ≡ spec.number_kind text.now }
 {
@@ -157,18 +165,21 @@ fn number_kind(text: &[u8]) -> TokenKind
     }
 }
 
+// Whether two bytes are a sign.
 fn is_pair(a: u8, b: u8) -> bool
     ensures { result ≡ spec.is_pair a b }
 {
     (b == b'=' && b"+-*/%<>=!".contains(&a)) || (b == a && b"+-&|".contains(&a))
 }
 
+// Whether a byte is a sign by itself.
 fn is_single(b: u8) -> bool
     ensures { result ≡ spec.is_single b }
 {
     b"()[]{};,?:=+-*/%<>!".contains(&b)
 }
 
+// How many bytes at the front are a sign, 0 where none begins.
 fn sign_len(text: &[u8]) -> usize
     ensures value { result ≡ spec.sign_len text.now }
     ensures within { result ≤ length text.now }

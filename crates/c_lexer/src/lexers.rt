@@ -112,7 +112,7 @@ impl<'a> Lexer<'a> {
     }
 }
 
-/// What separates byte `at` from the next token, and what follows it.
+// What separates byte `at` from the next token, and what follows it.
 fn ahead(text: &[u8], at: usize) -> (&[u8], &[u8])
     requires { at ≤ length text.now }
     ensures gap { length result.0.now ≡ gap (drop at text.now) }

@@ -39,7 +39,7 @@ pub fn is_pragma(line: &[u8], wanted: Pragma) -> bool
     }
 }
 
-/// What follows `word` at the front of `text`.
+// What follows `word` at the front of `text`.
 fn after<'a>(word: &[u8], mut text: &'a [u8]) -> Option<&'a [u8]>
     ensures { MatchOption result (spec.after word.now text.entry.now ≡ None) (λ rest. spec.after word.now text.entry.now ≡ Some rest.now) }
 {
@@ -55,7 +55,7 @@ fn after<'a>(word: &[u8], mut text: &'a [u8]) -> Option<&'a [u8]>
     Some(text)
 }
 
-/// What follows `#` and `pragma` on a line that begins so.
+// What follows `#` and `pragma` on a line that begins so.
 fn pragma_rest(line: &[u8]) -> Option<&[u8]>
     ensures { MatchOption result (spec.pragma_rest line.now ≡ None) (λ rest. spec.pragma_rest line.now ≡ Some rest.now) }
 {
@@ -63,14 +63,14 @@ fn pragma_rest(line: &[u8]) -> Option<&[u8]>
     after(b"pragma", trimmed_front(rest))
 }
 
-/// Whether only blanks are left.
+// Whether only blanks are left.
 fn is_bare(text: &[u8]) -> bool
     ensures { result ≡ spec.is_bare text.now }
 {
     text.iter().all(|b| is_blank_byte(*b))
 }
 
-/// Whether a blank is left, and then `word` among blanks.
+// Whether a blank is left, and then `word` among blanks.
 fn says(word: &[u8], text: &[u8]) -> bool
     ensures { result ≡ spec.says word.now (Some text.now) }
 {

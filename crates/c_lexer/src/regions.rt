@@ -59,7 +59,7 @@ pub fn find_region(bytes: &[u8]) -> Result<Span, RegionFail>
     })
 }
 
-/// Where a line stands among others.
+// Where a line stands among others.
 #[derive(Drop)]
 struct Standing<'a> {
     lines_before: u32,
@@ -68,7 +68,7 @@ struct Standing<'a> {
     rest: Lines<'a>,
 }
 
-/// The first line of `among` that is this pragma.
+// The first line of `among` that is this pragma.
 fn first_line<'a>(among: &Lines<'a>, wanted: Pragma) -> Option<Standing<'a>>
     requires { length among.now < 2 ^ 32 - 1 }
     ensures none { IfNone result (spec.first_line (pragma.is_pragma wanted) (lines among.now) ≡ None) }

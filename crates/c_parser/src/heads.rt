@@ -24,6 +24,7 @@ pub struct Head {
     pub step_at: usize,
 }
 
+// The sign of an assignment; `None` where the symbol is another.
 fn assign_sign(symbol: Symbol) -> Option<AssignSign>
     ensures { result ≡ spec.assign_sign symbol }
 {
@@ -38,6 +39,7 @@ fn assign_sign(symbol: Symbol) -> Option<AssignSign>
     }
 }
 
+// Whether a loop with this comparison goes upward.
 fn is_upward(rel: Rel) -> bool
     ensures { result ≡ spec.is_upward rel }
 {
@@ -47,6 +49,7 @@ fn is_upward(rel: Rel) -> bool
     }
 }
 
+// The comparison of a loop's head.
 #[tactic(auto, unfolding(crate::specs::Statements::rel))]
 fn rel(tokens: &mut Tokens<'_>) -> Result<Rel, Stop>
     ensures { Reads (spec.rel tokens.old) result tokens.new }
@@ -69,6 +72,7 @@ pub fn assigned(tokens: &mut Tokens<'_>) -> Result<AssignSign, Stop>
     Ok(sign)
 }
 
+// A step that begins with the name: `i++`, `i += 2` upward, `i--`, `i -= 2` downward.
 #[tactic(auto, unfolding(crate::specs::Statements::step_behind))]
 fn step_behind(tokens: &mut Tokens<'_>, up: bool, name: Piece) -> Result<Step, Stop>
     ensures { Reads (spec.step_behind up name tokens.old) result tokens.new }
@@ -82,6 +86,7 @@ fn step_behind(tokens: &mut Tokens<'_>, up: bool, name: Piece) -> Result<Step, S
     Ok(number_step(up, number))
 }
 
+// The step of a loop that goes upward or downward.
 #[tactic(auto, unfolding(crate::specs::Statements::step))]
 fn step(tokens: &mut Tokens<'_>, up: bool, name: Piece) -> Result<Step, Stop>
     ensures { Reads (spec.step up name tokens.old) result tokens.new }
@@ -107,7 +112,7 @@ pub fn open_round(tokens: &mut Tokens<'_>, nests: usize) -> Result<(), Stop>
     Ok(())
 }
 
-/// The second half of a head, from the name before the comparison on.
+// The second half of a head, from the name before the comparison on.
 #[tactic(auto, unfolding(crate::specs::Statements::head_rest))]
 fn head_rest(
     alloc: Global,
@@ -136,6 +141,7 @@ fn head_rest(
     })
 }
 
+/// The head of a loop, from its bracket on.
 #[tactic(auto, unfolding(crate::specs::Statements::head))]
 pub fn loop_head(alloc: Global, tokens: &mut Tokens<'_>, nests: usize) -> Result<Head, Stop>
     ensures { Reads (spec.head nests tokens.old) result tokens.new }
@@ -149,6 +155,7 @@ pub fn loop_head(alloc: Global, tokens: &mut Tokens<'_>, nests: usize) -> Result
     head_rest(alloc, tokens, nests, name, start)
 }
 
+// The sign of a step by 1.
 fn step_sign(up: bool) -> Symbol
     ensures { result ≡ spec.step_sign up }
 {
@@ -159,6 +166,7 @@ fn step_sign(up: bool) -> Symbol
     }
 }
 
+// The sign of a step by a number.
 fn add_sign(up: bool) -> Symbol
     ensures { result ≡ spec.add_sign up }
 {
@@ -169,18 +177,21 @@ fn add_sign(up: bool) -> Symbol
     }
 }
 
+// The step `++i` or `--i`.
 fn pre_step(up: bool) -> Step
     ensures { result ≡ spec.pre_step up }
 {
     if up { Step::PreUp } else { Step::PreDown }
 }
 
+// The step `i++` or `i--`.
 fn post_step(up: bool) -> Step
     ensures { result ≡ spec.post_step up }
 {
     if up { Step::PostUp } else { Step::PostDown }
 }
 
+// The step by this number.
 fn number_step(up: bool, number: Piece) -> Step
     ensures { result ≡ spec.number_step up number }
 {

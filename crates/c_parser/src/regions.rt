@@ -35,7 +35,7 @@ pub fn parse_region<'a>(alloc: Global, bytes: &'a [u8], span: Span) -> Result<Re
     read(alloc, bytes, span)
 }
 
-/// The same by the rules, each of which looks one token ahead.
+// The same by the rules, each of which looks one token ahead.
 fn read<'a>(alloc: Global, bytes: &'a [u8], span: Span) -> Result<Region<'a>, Fail>
     requires small { length bytes.now < 2 ^ 32 - 1 }
     requires order { span.from ≤ span.to }

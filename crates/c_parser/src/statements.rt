@@ -14,11 +14,13 @@ use sqlite_items::{Boxed, Items};
 use std::alloc::Global;
 use suite_base::List;
 
-/// How many nests and how many loops may be open at once.
+/// How many nests may be open at once.
 pub const MAX_NESTS: usize = 64;
 
+/// How many loops may be open at once.
 pub const MAX_LOOPS: usize = 12;
 
+// An assignment with its `;`.
 #[tactic(auto, unfolding(crate::specs::Statements::assign))]
 fn assign(alloc: Global, tokens: &mut Tokens<'_>, nests: usize) -> Result<Assign, Stop>
     requires { nests < 2 ^ 32 }
@@ -39,6 +41,7 @@ fn assign(alloc: Global, tokens: &mut Tokens<'_>, nests: usize) -> Result<Assign
     })
 }
 
+// Whether a statement may begin with the symbol.
 fn begins_statement(symbol: Symbol) -> bool
     ensures { result ≡ spec.begins_statement symbol }
 {
@@ -48,6 +51,7 @@ fn begins_statement(symbol: Symbol) -> bool
     }
 }
 
+// A loop with its body.
 #[tactic(auto, unfolding(crate::specs::Statements::for_loop))]
 #[cycle(statements)]
 fn for_loop(
@@ -75,7 +79,7 @@ fn for_loop(
     Ok(Node::For(Boxed::new(alloc, made)?))
 }
 
-/// A branch opens a nest with its first token.
+// A branch opens a nest with its first token.
 #[tactic(auto, unfolding(crate::specs::Statements::branch))]
 #[cycle(statements)]
 fn branch(alloc: Global, tokens: &mut Tokens<'_>, nests: usize, loops: usize) -> Result<Node, Stop>
@@ -89,6 +93,7 @@ fn branch(alloc: Global, tokens: &mut Tokens<'_>, nests: usize, loops: usize) ->
     inner(alloc, tokens, nests, loops)
 }
 
+// The branch behind `else`, if there is one.
 #[tactic(auto, unfolding(crate::specs::Statements::else_branch))]
 #[cycle(statements)]
 fn else_branch(
@@ -107,6 +112,7 @@ fn else_branch(
     Ok(Some(other))
 }
 
+// A branch with its condition, and the one behind `else` if there is one.
 #[tactic(auto, unfolding(crate::specs::Statements::if_branch))]
 #[cycle(statements)]
 fn if_branch(
@@ -132,6 +138,7 @@ fn if_branch(
     Ok(Node::If(Boxed::new(alloc, made)?))
 }
 
+// The statements of a block, and its closing bracket.
 #[cycle(statements)]
 fn block_nodes(
     alloc: Global,
@@ -154,6 +161,7 @@ fn block_nodes(
     Err(tokens.refuse())
 }
 
+// A block of statements in curly brackets.
 #[tactic(auto, unfolding(crate::specs::Statements::block))]
 #[cycle(statements)]
 fn block(alloc: Global, tokens: &mut Tokens<'_>, nests: usize, loops: usize) -> Result<Node, Stop>
@@ -166,7 +174,7 @@ fn block(alloc: Global, tokens: &mut Tokens<'_>, nests: usize, loops: usize) -> 
     Ok(Node::Block(nodes))
 }
 
-/// A statement by its first token.
+// A statement by its first token.
 #[tactic(auto, unfolding(crate::specs::Statements::statement_rule))]
 #[cycle(statements)]
 fn statement_rule(
@@ -205,7 +213,7 @@ pub fn statement(
     statement_rule(alloc, tokens, nests, loops)
 }
 
-/// A statement in one nest more.
+// A statement in one nest more.
 #[cycle(statements)]
 fn inner(alloc: Global, tokens: &mut Tokens<'_>, nests: usize, loops: usize) -> Result<Node, Stop>
     requires some { 0 < nests }
@@ -215,7 +223,7 @@ fn inner(alloc: Global, tokens: &mut Tokens<'_>, nests: usize, loops: usize) -> 
     statement(alloc, tokens, nests - 1, loops)
 }
 
-/// A statement in one loop more.
+// A statement in one loop more.
 #[cycle(statements)]
 fn body(alloc: Global, tokens: &mut Tokens<'_>, nests: usize, loops: usize) -> Result<Node, Stop>
     requires some { 0 < loops }

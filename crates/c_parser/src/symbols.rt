@@ -98,9 +98,10 @@ pub const WORDS: [(&[u8], Symbol); 36] = [
     (b"while", Symbol::Reserved),
 ];
 
-/// The greatest coefficient, 2^127 - 1.
+// The greatest coefficient, 2^127 - 1.
 const LIMIT: u128 = 170141183460469231731687303715884105727;
 
+/// Whether two symbols are the same.
 pub fn same_symbol(a: Symbol, b: Symbol) -> bool
     ensures value { result ≡ spec.same_symbol a b }
     ensures same { result ≡ true → a ≡ b }
@@ -109,6 +110,7 @@ pub fn same_symbol(a: Symbol, b: Symbol) -> bool
     a == b
 }
 
+// What a table has for a name; a free name where it has none.
 fn lookup(table: &[(&[u8], Symbol)], text: &[u8]) -> Symbol
     ensures { result ≡ spec.lookup (map (λ w. (w.0.now, w.1)) table.now) text.now }
 {
@@ -122,11 +124,12 @@ fn lookup(table: &[(&[u8], Symbol)], text: &[u8]) -> Symbol
     Symbol::Name
 }
 
-/// The least and the greatest number of bytes of these words.
+// The least and the greatest number of bytes of these words.
 const SHORTEST_WORD: usize = 2;
 
 const LONGEST_WORD: usize = 8;
 
+// What a name is: a reserved word, an operator, or a free name.
 fn name_symbol(text: &[u8]) -> Symbol
     ensures { result ≡ spec.name_symbol text.now }
 {
@@ -139,7 +142,7 @@ fn name_symbol(text: &[u8]) -> Symbol
     lookup(&WORDS, text)
 }
 
-/// Whether digits stand for a number above the greatest coefficient.
+// Whether digits stand for a number above the greatest coefficient.
 fn is_too_large(digits: &[u8]) -> bool
     ensures { result ≡ spec.is_too_large digits.now }
 {
@@ -153,7 +156,7 @@ fn is_too_large(digits: &[u8]) -> bool
     value > LIMIT
 }
 
-/// The number that one digit more makes of `value`.
+// The number that one digit more makes of `value`.
 fn value_after(value: u128, digit: u8) -> u128
     requires { value < 2 ^ 124 }
     ensures { result ≡ 10 * value + (digit - 48) }
@@ -161,6 +164,7 @@ fn value_after(value: u128, digit: u8) -> u128
     10 * value + u128::from(digit.saturating_sub(b'0'))
 }
 
+// A sign of one byte.
 fn single(b: u8) -> Symbol
     ensures { result ≡ spec.single b }
 {
@@ -180,6 +184,7 @@ fn single(b: u8) -> Symbol
     }
 }
 
+// An arithmetic sign, a comparison or `!`, of one byte.
 fn operation(b: u8) -> Symbol
     ensures { result ≡ spec.operation b }
 {
@@ -196,7 +201,7 @@ fn operation(b: u8) -> Symbol
     }
 }
 
-/// A sign of two bytes that ends in `=`.
+// A sign of two bytes that ends in `=`.
 fn assigned(b: u8) -> Symbol
     ensures { result ≡ spec.assigned b }
 {
@@ -214,7 +219,7 @@ fn assigned(b: u8) -> Symbol
     }
 }
 
-/// A sign of the same byte twice.
+// A sign of the same byte twice.
 fn doubled(b: u8) -> Symbol
     ensures { result ≡ spec.doubled b }
 {
@@ -227,6 +232,7 @@ fn doubled(b: u8) -> Symbol
     }
 }
 
+// A sign of one byte or two.
 fn sign_symbol(text: &[u8]) -> Symbol
     ensures { result ≡ spec.sign_symbol text.now }
 {

@@ -36,7 +36,7 @@ impl<'a> Model for Tokens<'a> {
     ghost invariant = { IsReady };
 }
 
-/// What stands next, where it begins, and its place.
+// What stands next, where it begins, and its place.
 #[tactic(auto, unfolding(crate::specs::Input::symbol, crate::specs::Input::start, crate::specs::Input::here, crate::specs::Input::behind))]
 fn fetch(lexer: &mut Lexer<'_>) -> (Symbol, usize, Place)
     ensures symbol { result.0 ≡ spec.symbol lexer.old }
@@ -181,7 +181,7 @@ impl<'a> Tokens<'a> {
         }
     }
 
-    /// Whether the next token is the name that stands at this piece.
+    // Whether the next token is the name that stands at this piece.
     #[tactic(auto, unfolding(crate::specs::Statements::sees_name, crate::specs::Input::piece))]
     fn sees_name(&self, name: Piece) -> bool
         ensures { result ≡ statement.sees_name name self.now }
@@ -209,7 +209,7 @@ impl<'a> Tokens<'a> {
         }
     }
 
-    /// The bytes of a piece.
+    // The bytes of a piece.
     fn bytes(&self, piece: Piece) -> &'a [u8]
         ensures { result.now ≡ slice self.now.text piece.from piece.to }
     {

@@ -21,15 +21,18 @@ use sqlite_items::{Boxed, Items};
 use std::alloc::Global;
 use suite_base::List;
 
+/// What the productions of values have in common: an allocator, and how an operand is parsed.
 #[derive(Clone, Copy)]
 pub struct Grammar<F> {
     pub alloc: Global,
     /// Operands are parsed with fewer nests than these to open.
     pub limit: usize,
+    /// Parses an operand with its signs, behind those that were read.
     pub unary: F,
 }
 
 impl<F: Fn(Global, &mut Tokens<'_>, usize, List<UnarySign>) -> Result<Unary, Stop>> Grammar<F> {
+    // An operand with its signs.
     fn unary(&self, tokens: &mut Tokens<'_>, nests: usize) -> Result<Unary, Stop>
         requires room { nests < self.now.limit }
         requires nests { Nests self.now.limit (F.pre self.now.unary) (F.post self.now.unary) }
@@ -38,6 +41,7 @@ impl<F: Fn(Global, &mut Tokens<'_>, usize, List<UnarySign>) -> Result<Unary, Sto
         (self.unary)(self.alloc, tokens, nests, List::new(self.alloc))
     }
 
+    // The further operands of a product, each with its sign.
     fn product_rest(
         &self,
         tokens: &mut Tokens<'_>,
@@ -59,6 +63,7 @@ impl<F: Fn(Global, &mut Tokens<'_>, usize, List<UnarySign>) -> Result<Unary, Sto
         Err(tokens.refuse())
     }
 
+    // Operands joined by `*`, `/` and `%`.
     #[tactic(auto, unfolding(crate::specs::Values::product))]
     fn product(&self, tokens: &mut Tokens<'_>, nests: usize) -> Result<Product, Stop>
         requires room { nests < self.now.limit }
@@ -70,6 +75,7 @@ impl<F: Fn(Global, &mut Tokens<'_>, usize, List<UnarySign>) -> Result<Unary, Sto
         Ok(Product { first, rest })
     }
 
+    // The further products of a sum, each with its sign.
     fn sum_rest(
         &self,
         tokens: &mut Tokens<'_>,
@@ -91,6 +97,7 @@ impl<F: Fn(Global, &mut Tokens<'_>, usize, List<UnarySign>) -> Result<Unary, Sto
         Err(tokens.refuse())
     }
 
+    /// Products joined by `+` and `-`.
     #[tactic(auto, unfolding(crate::specs::Values::sum))]
     pub fn sum(&self, tokens: &mut Tokens<'_>, nests: usize) -> Result<Sum, Stop>
         requires room { nests < self.now.limit }
@@ -103,6 +110,7 @@ impl<F: Fn(Global, &mut Tokens<'_>, usize, List<UnarySign>) -> Result<Unary, Sto
         Ok(Sum { at, first, rest })
     }
 
+    // The further sums of a comparison, each with its sign.
     fn compare_rest(&self, tokens: &mut Tokens<'_>, nests: usize) -> Result<Items<(Rel, Sum)>, Stop>
         requires room { nests < self.now.limit }
         requires nests { Nests self.now.limit (F.pre self.now.unary) (F.post self.now.unary) }
@@ -120,6 +128,7 @@ impl<F: Fn(Global, &mut Tokens<'_>, usize, List<UnarySign>) -> Result<Unary, Sto
         Err(tokens.refuse())
     }
 
+    // Sums joined by `<`, `<=`, `>` and `>=`.
     #[tactic(auto, unfolding(crate::specs::Values::compare))]
     fn compare(&self, tokens: &mut Tokens<'_>, nests: usize) -> Result<Compare, Stop>
         requires room { nests < self.now.limit }
@@ -131,6 +140,7 @@ impl<F: Fn(Global, &mut Tokens<'_>, usize, List<UnarySign>) -> Result<Unary, Sto
         Ok(Compare { first, rest })
     }
 
+    // The further comparisons of an equality, each with its sign.
     fn equal_rest(
         &self,
         tokens: &mut Tokens<'_>,
@@ -152,6 +162,7 @@ impl<F: Fn(Global, &mut Tokens<'_>, usize, List<UnarySign>) -> Result<Unary, Sto
         Err(tokens.refuse())
     }
 
+    // Comparisons joined by `==` and `!=`.
     #[tactic(auto, unfolding(crate::specs::Values::equal))]
     fn equal(&self, tokens: &mut Tokens<'_>, nests: usize) -> Result<Equal, Stop>
         requires room { nests < self.now.limit }
@@ -163,6 +174,7 @@ impl<F: Fn(Global, &mut Tokens<'_>, usize, List<UnarySign>) -> Result<Unary, Sto
         Ok(Equal { first, rest })
     }
 
+    // Equalities joined by `&&`.
     #[tactic(auto, unfolding(crate::specs::Values::and_value))]
     fn and_value(&self, tokens: &mut Tokens<'_>, nests: usize) -> Result<And, Stop>
         requires room { nests < self.now.limit }
@@ -173,6 +185,7 @@ impl<F: Fn(Global, &mut Tokens<'_>, usize, List<UnarySign>) -> Result<Unary, Sto
         Ok(And { items })
     }
 
+    // The equalities that `&&` joins.
     fn and_value_items(&self, tokens: &mut Tokens<'_>, nests: usize) -> Result<Items<Equal>, Stop>
         requires room { nests < self.now.limit }
         requires nests { Nests self.now.limit (F.pre self.now.unary) (F.post self.now.unary) }
@@ -189,6 +202,7 @@ impl<F: Fn(Global, &mut Tokens<'_>, usize, List<UnarySign>) -> Result<Unary, Sto
         Err(tokens.refuse())
     }
 
+    // What `||` joins.
     #[tactic(auto, unfolding(crate::specs::Values::or_value))]
     fn or_value(&self, tokens: &mut Tokens<'_>, nests: usize) -> Result<Or, Stop>
         requires room { nests < self.now.limit }
@@ -199,6 +213,7 @@ impl<F: Fn(Global, &mut Tokens<'_>, usize, List<UnarySign>) -> Result<Unary, Sto
         Ok(Or { items })
     }
 
+    // The members that `||` joins.
     fn or_value_items(&self, tokens: &mut Tokens<'_>, nests: usize) -> Result<Items<And>, Stop>
         requires room { nests < self.now.limit }
         requires nests { Nests self.now.limit (F.pre self.now.unary) (F.post self.now.unary) }
@@ -215,6 +230,7 @@ impl<F: Fn(Global, &mut Tokens<'_>, usize, List<UnarySign>) -> Result<Unary, Sto
         Err(tokens.refuse())
     }
 
+    // A value behind `?` or `:`, in one nest more.
     #[cycle(value)]
     fn arm(&self, tokens: &mut Tokens<'_>, nests: usize) -> Result<Value, Stop>
         requires some { 0 < nests }
@@ -225,6 +241,7 @@ impl<F: Fn(Global, &mut Tokens<'_>, usize, List<UnarySign>) -> Result<Unary, Sto
         self.value(tokens, nests - 1)
     }
 
+    // The two values behind `?`, where there is one.
     #[tactic(auto, unfolding(crate::specs::Values::arms))]
     #[cycle(value)]
     fn arms(&self, tokens: &mut Tokens<'_>, nests: usize) -> Result<Option<Boxed<Arms>>, Stop>
@@ -243,6 +260,7 @@ impl<F: Fn(Global, &mut Tokens<'_>, usize, List<UnarySign>) -> Result<Unary, Sto
         Ok(Some(Boxed::new(self.alloc, Arms { yes, no })?))
     }
 
+    /// A whole value: what `||` joins, and the two values behind `?` where there is one.
     #[tactic(auto, unfolding(crate::specs::Values::value))]
     #[cycle(value)]
     pub fn value(&self, tokens: &mut Tokens<'_>, nests: usize) -> Result<Value, Stop>
@@ -256,7 +274,7 @@ impl<F: Fn(Global, &mut Tokens<'_>, usize, List<UnarySign>) -> Result<Unary, Sto
         Ok(Value { at, test, arms })
     }
 
-    /// A value in one nest more.
+    // A value in one nest more.
     fn inner_value(&self, tokens: &mut Tokens<'_>) -> Result<Value, Stop>
         requires some { 0 < self.now.limit }
         requires nests { Nests self.now.limit (F.pre self.now.unary) (F.post self.now.unary) }
@@ -265,7 +283,7 @@ impl<F: Fn(Global, &mut Tokens<'_>, usize, List<UnarySign>) -> Result<Unary, Sto
         self.value(tokens, self.limit - 1)
     }
 
-    /// A sum in one nest more.
+    // A sum in one nest more.
     fn inner_sum(&self, tokens: &mut Tokens<'_>) -> Result<Sum, Stop>
         requires some { 0 < self.now.limit }
         requires nests { Nests self.now.limit (F.pre self.now.unary) (F.post self.now.unary) }
@@ -274,6 +292,7 @@ impl<F: Fn(Global, &mut Tokens<'_>, usize, List<UnarySign>) -> Result<Unary, Sto
         self.sum(tokens, self.limit - 1)
     }
 
+    // A sum in square brackets.
     #[tactic(auto, unfolding(crate::specs::Values::subscript))]
     fn subscript(&self, tokens: &mut Tokens<'_>) -> Result<Sum, Stop>
         requires { Nests self.now.limit (F.pre self.now.unary) (F.post self.now.unary) }
@@ -286,6 +305,7 @@ impl<F: Fn(Global, &mut Tokens<'_>, usize, List<UnarySign>) -> Result<Unary, Sto
         Ok(sum)
     }
 
+    // All subscripts that follow a name.
     fn subscripts(&self, tokens: &mut Tokens<'_>) -> Result<Items<Sum>, Stop>
         requires { Nests self.now.limit (F.pre self.now.unary) (F.post self.now.unary) }
         ensures { Reads (spec.subscripts self.now.limit (spec.below self.now.limit) tokens.old) result tokens.new }
@@ -301,6 +321,7 @@ impl<F: Fn(Global, &mut Tokens<'_>, usize, List<UnarySign>) -> Result<Unary, Sto
         Err(tokens.refuse())
     }
 
+    /// A name with its subscripts.
     #[tactic(auto, unfolding(crate::specs::Values::target))]
     pub fn target(&self, tokens: &mut Tokens<'_>) -> Result<Target, Stop>
         requires { Nests self.now.limit (F.pre self.now.unary) (F.post self.now.unary) }
@@ -311,6 +332,7 @@ impl<F: Fn(Global, &mut Tokens<'_>, usize, List<UnarySign>) -> Result<Unary, Sto
         Ok(Target { name, subscripts })
     }
 
+    // The arguments of a call, of which there is one at least.
     fn argument_items(&self, tokens: &mut Tokens<'_>) -> Result<Items<Value>, Stop>
         requires some { 0 < self.now.limit }
         requires nests { Nests self.now.limit (F.pre self.now.unary) (F.post self.now.unary) }
@@ -327,6 +349,7 @@ impl<F: Fn(Global, &mut Tokens<'_>, usize, List<UnarySign>) -> Result<Unary, Sto
         Err(tokens.refuse())
     }
 
+    // The arguments of a call, and its closing bracket.
     #[tactic(auto, unfolding(crate::specs::Values::arguments))]
     fn arguments(&self, tokens: &mut Tokens<'_>) -> Result<Items<Value>, Stop>
         requires some { 0 < self.now.limit }
@@ -341,6 +364,7 @@ impl<F: Fn(Global, &mut Tokens<'_>, usize, List<UnarySign>) -> Result<Unary, Sto
         Ok(found)
     }
 
+    // A call of this name, from its bracket on.
     #[tactic(auto, unfolding(crate::specs::Values::call))]
     fn call(&self, tokens: &mut Tokens<'_>, name: Piece) -> Result<Primary, Stop>
         requires { Nests self.now.limit (F.pre self.now.unary) (F.post self.now.unary) }
@@ -352,6 +376,7 @@ impl<F: Fn(Global, &mut Tokens<'_>, usize, List<UnarySign>) -> Result<Unary, Sto
         Ok(Primary::Call(name, found))
     }
 
+    // A call, or a name with its subscripts.
     #[tactic(auto, unfolding(crate::specs::Values::named))]
     fn named(&self, tokens: &mut Tokens<'_>) -> Result<Primary, Stop>
         requires { Nests self.now.limit (F.pre self.now.unary) (F.post self.now.unary) }
@@ -365,6 +390,7 @@ impl<F: Fn(Global, &mut Tokens<'_>, usize, List<UnarySign>) -> Result<Unary, Sto
         Ok(Primary::Target(Target { name, subscripts }))
     }
 
+    // A call of `max`, `min`, `ceild` or `floord`.
     #[tactic(auto, unfolding(crate::specs::Values::operator))]
     fn operator(&self, tokens: &mut Tokens<'_>) -> Result<Primary, Stop>
         requires { Nests self.now.limit (F.pre self.now.unary) (F.post self.now.unary) }
@@ -378,6 +404,7 @@ impl<F: Fn(Global, &mut Tokens<'_>, usize, List<UnarySign>) -> Result<Unary, Sto
         }
     }
 
+    // A value in round brackets.
     #[tactic(auto, unfolding(crate::specs::Values::bracket))]
     fn bracket(&self, tokens: &mut Tokens<'_>) -> Result<Primary, Stop>
         requires { Nests self.now.limit (F.pre self.now.unary) (F.post self.now.unary) }
@@ -390,6 +417,7 @@ impl<F: Fn(Global, &mut Tokens<'_>, usize, List<UnarySign>) -> Result<Unary, Sto
         Ok(Primary::Bracket(Boxed::new(self.alloc, value)?))
     }
 
+    // A number, a call, a name with its subscripts, or a value in brackets.
     #[tactic(auto, unfolding(crate::specs::Values::primary))]
     fn primary(&self, tokens: &mut Tokens<'_>) -> Result<Primary, Stop>
         requires { Nests self.now.limit (F.pre self.now.unary) (F.post self.now.unary) }
@@ -405,6 +433,7 @@ impl<F: Fn(Global, &mut Tokens<'_>, usize, List<UnarySign>) -> Result<Unary, Sto
         }
     }
 
+    // An operand behind these signs.
     #[tactic(auto, unfolding(crate::specs::Values::operand))]
     fn operand(&self, tokens: &mut Tokens<'_>, signs: List<UnarySign>) -> Result<Unary, Stop>
         requires { Nests self.now.limit (F.pre self.now.unary) (F.post self.now.unary) }

@@ -53,6 +53,7 @@ pub fn reads_back()
     ensures { ReadsBack }
 {}
 
+// Appends the multipliers with single spaces between them.
 fn push_line(text: &mut Text, multipliers: &[Coeff]) -> Result<(), NoMemory>
     ensures { OnOk result (text.new ≡ text.old ++ certificate_line multipliers.now) }
 {
@@ -65,6 +66,7 @@ fn push_line(text: &mut Text, multipliers: &[Coeff]) -> Result<(), NoMemory>
     }
 }
 
+// Appends multipliers, each behind a space.
 fn push_rest(text: &mut Text, multipliers: &[Coeff]) -> Result<(), NoMemory>
     ensures { OnOk result (text.new ≡ text.old ++ flat_map spaced multipliers.now) }
 {
@@ -74,6 +76,7 @@ fn push_rest(text: &mut Text, multipliers: &[Coeff]) -> Result<(), NoMemory>
     Ok(())
 }
 
+// Appends a multiplier behind a space.
 fn push_spaced(text: &mut Text, multiplier: Coeff) -> Result<(), NoMemory>
     ensures { OnOk result (text.new ≡ text.old ++ spaced multiplier) }
 {
@@ -81,12 +84,14 @@ fn push_spaced(text: &mut Text, multiplier: Coeff) -> Result<(), NoMemory>
     push_multiplier(text, multiplier)
 }
 
+// Appends a multiplier.
 fn push_multiplier(text: &mut Text, multiplier: Coeff) -> Result<(), NoMemory>
     ensures { OnOk result (text.new ≡ text.old ++ signed_decimal multiplier) }
 {
     text.push_number(multiplier.value())
 }
 
+// The multiplier that a word is; `None` where it is no number word, or out of range.
 fn read_multiplier(word: &[u8]) -> Option<Coeff>
     ensures { result ≡ multiplier_read word.now }
 {

@@ -33,6 +33,7 @@ pub fn print_header(text: &mut Text, part: &Part) -> Result<(), NoMemory>
     push_header(text, part.shape(), part.row_count())
 }
 
+// Appends the six numbers of a part with so many rows.
 fn push_header(text: &mut Text, shape: Shape, rows: usize) -> Result<(), NoMemory>
     requires { HasLimits shape }
     ensures { OnOk result (text.new ≡ text.old ++ header_text rows shape) }
@@ -49,6 +50,7 @@ fn push_header(text: &mut Text, shape: Shape, rows: usize) -> Result<(), NoMemor
     push_counts(text, &counts)
 }
 
+// Appends numbers, each behind a space.
 fn push_counts(text: &mut Text, counts: &[usize]) -> Result<(), NoMemory>
     ensures { OnOk result (text.new ≡ text.old ++ flat_map spaced_count counts.now) }
 {
@@ -58,6 +60,7 @@ fn push_counts(text: &mut Text, counts: &[usize]) -> Result<(), NoMemory>
     Ok(())
 }
 
+// Appends the lines of rows.
 fn push_rows(text: &mut Text, rows: &[PartRow]) -> Result<(), NoMemory>
     ensures { OnOk result (text.new ≡ text.old ++ flat_map row_line rows.now) }
 {
@@ -67,6 +70,7 @@ fn push_rows(text: &mut Text, rows: &[PartRow]) -> Result<(), NoMemory>
     Ok(())
 }
 
+// Appends the line of a row.
 fn push_line(text: &mut Text, row: &PartRow) -> Result<(), NoMemory>
     ensures { OnOk result (text.new ≡ text.old ++ row_line row.now) }
 {
@@ -86,6 +90,7 @@ pub fn print_row(text: &mut Text, row: &PartRow) -> Result<(), NoMemory>
     push_entries(text, &row.entries)
 }
 
+// Appends the entries of a row, each behind a space.
 fn push_entries(text: &mut Text, entries: &DenseRow) -> Result<(), NoMemory>
     ensures { OnOk result (text.new ≡ text.old ++ flat_map spaced entries.now) }
 {
@@ -95,6 +100,7 @@ fn push_entries(text: &mut Text, entries: &DenseRow) -> Result<(), NoMemory>
     Ok(())
 }
 
+// Appends a number behind a space.
 fn push_spaced(text: &mut Text, number: i128) -> Result<(), NoMemory>
     ensures { OnOk result (text.new ≡ text.old ++ spaced number) }
 {

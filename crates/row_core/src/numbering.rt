@@ -10,7 +10,7 @@ use std::alloc::{AllocError, Global};
 use std::collections::BTreeSet;
 use suite_base::{List, NoMemory};
 
-/// The first entries of the vectors of `group` that are below `limit`.
+// The first entries of the vectors of `group` that are below `limit`.
 fn heads_below(alloc: Global, limit: Coeff, group: &[&[Coeff]]) -> Result<Vec<i128>, NoMemory>
     ensures { IfOk result (λ found. found.items ≡ filter (λ y. int_lt y limit) (heads (map (λ v. v.now) group.now))) }
 {
@@ -25,14 +25,14 @@ fn heads_below(alloc: Global, limit: Coeff, group: &[&[Coeff]]) -> Result<Vec<i1
     Ok(found)
 }
 
-/// The distinct ones of `numbers`.
+// The distinct ones of `numbers`.
 fn distinct_numbers(alloc: Global, numbers: Vec<i128>) -> Result<BTreeSet<i128>, AllocError>
     ensures { IfOk result (IsFromIterResult int_cmp numbers.items) }
 {
     numbers.into_iter().collect(alloc)
 }
 
-/// How many distinct first entries of the vectors of `group` are below `limit`.
+// How many distinct first entries of the vectors of `group` are below `limit`.
 fn count_lesser(alloc: Global, limit: Coeff, group: &[&[Coeff]]) -> Result<usize, NoMemory>
     ensures { IfOk result (λ count. count ≡ lesser limit (heads (map (λ v. v.now) group.now))) }
 {
@@ -41,7 +41,7 @@ fn count_lesser(alloc: Global, limit: Coeff, group: &[&[Coeff]]) -> Result<usize
     Ok(distinct.len())
 }
 
-/// What follows the first entry, of the vectors of `group` whose first entry is `first`.
+// What follows the first entry, of the vectors of `group` whose first entry is `first`.
 fn matching_rests<'a>(
     alloc: Global,
     first: Coeff,
@@ -60,7 +60,7 @@ fn matching_rests<'a>(
     Ok(found)
 }
 
-/// All of `vectors`, as slices.
+// All of `vectors`, as slices.
 fn slices(alloc: Global, vectors: &List<List<Coeff>>) -> Result<Vec<&[Coeff]>, NoMemory>
     ensures { IfOk result (λ group. map (λ v. v.now) group.items ≡ vectors.now) }
 {
@@ -71,7 +71,7 @@ fn slices(alloc: Global, vectors: &List<List<Coeff>>) -> Result<Vec<&[Coeff]>, N
     Ok(group)
 }
 
-/// `vector` numbered densely among `vectors`.
+// `vector` numbered densely among `vectors`.
 fn dense_vector(
     alloc: Global,
     vectors: &List<List<Coeff>>,

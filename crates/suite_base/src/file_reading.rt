@@ -29,7 +29,7 @@ pub fn read_file<F: Files>(alloc: Global, files: &mut F, name: &str) -> Result<T
     read
 }
 
-/// Reads the open file to its end and answers its bytes.
+// Reads the open file to its end and answers its bytes.
 fn read_to_end<F: Files>(alloc: Global, files: &mut F) -> Result<Text, ReadFail>
     requires { F.is_open files.old ≡ true }
     ensures took { IfOk result (λ text. Took (F.left files.old) text (F.left files.new)) }
@@ -51,7 +51,7 @@ fn read_to_end<F: Files>(alloc: Global, files: &mut F) -> Result<Text, ReadFail>
     Err(ReadFail::TooLong)
 }
 
-/// Appends one piece of the open file to `text`, and answers its length: 0 only at the end.
+// Appends one piece of the open file to `text`, and answers its length: 0 only at the end.
 fn read_piece<F: Files>(files: &mut F, text: &mut Text) -> Result<usize, ReadFail>
     requires opened { F.is_open files.old ≡ true }
     requires room { length text.old ≤ max_input }

@@ -83,7 +83,7 @@ impl HeldFiles {
     }
 }
 
-/// The bytes of the file at place `k`; none where there is no such place.
+// The bytes of the file at place `k`; none where there is no such place.
 fn file_bytes(files: &[(Text, Text)], k: usize) -> &[u8]
     ensures { result.now ≡ bytes_at files.now k }
 {
@@ -94,7 +94,7 @@ fn file_bytes(files: &[(Text, Text)], k: usize) -> &[u8]
     }
 }
 
-/// The place of the first file of this name.
+// The place of the first file of this name.
 fn find_file(files: &[(Text, Text)], name: &str) -> Option<usize>
     ensures { MatchOption result (bytes_under name.now files.now ≡ None) (λ k. bytes_under name.now files.now ≡ Some (bytes_at files.now k)) }
 {

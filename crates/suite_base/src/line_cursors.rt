@@ -63,7 +63,7 @@ fn cut_line(text: &[u8]) -> Option<(&[u8], &[u8])>
     }
 }
 
-/// The number of bytes before the first newline.
+// The number of bytes before the first newline.
 fn line_length(text: &[u8]) -> usize
     ensures { result ≡ prefix_len (λ b. not (b == 10)) text.now }
 {
@@ -91,7 +91,7 @@ pub fn trimmed_front(line: &[u8]) -> &[u8]
     line
 }
 
-/// `line` without the blanks at its end.
+// `line` without the blanks at its end.
 fn trimmed_end(line: &[u8]) -> &[u8]
     ensures { result.now ≡ reverse (trim_front (reverse line.now)) }
 {

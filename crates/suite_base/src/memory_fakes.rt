@@ -174,7 +174,7 @@ impl MemFiles {
         }
     }
 
-    /// Counts one more call, and says whether it fails.
+    // Counts one more call, and says whether it fails.
     fn fails_now(&mut self) -> bool
         ensures held { self.new.held ≡ self.old.held }
         ensures list { self.new.fails ≡ self.old.fails }

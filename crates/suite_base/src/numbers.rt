@@ -25,7 +25,7 @@ pub fn read_number(word: &[u8]) -> NumberRead
     }
 }
 
-/// Reads digits as a number, negated where `negative`.
+// Reads digits as a number, negated where `negative`.
 fn read_digits(digits: &[u8], negative: bool) -> NumberRead
     ensures answer { result ≡ digits_read negative digits.now }
     ensures range { IsInRange result }
@@ -39,7 +39,7 @@ fn read_digits(digits: &[u8], negative: bool) -> NumberRead
     }
 }
 
-/// `size`, negated where `negative`.
+// `size`, negated where `negative`.
 fn signed(size: u128, negative: bool) -> i128
     requires { size < 2 ^ 127 }
     ensures { result ≡ with_sign negative size }
@@ -72,7 +72,7 @@ pub fn are_all_digits(digits: &[u8]) -> bool
     true
 }
 
-/// The number that `digits` write; `None` exactly where it is 2^127 or more.
+// The number that `digits` write; `None` exactly where it is 2^127 or more.
 #[tactic(auto, using(crate::proofs::Digits::le_digits_after))]
 fn magnitude(digits: &[u8]) -> Option<u128>
     requires { all_digits digits.now ≡ true }
@@ -90,7 +90,7 @@ fn magnitude(digits: &[u8]) -> Option<u128>
     Some(size)
 }
 
-/// `size` with one more digit at its end; `None` exactly where that is 2^127 or more.
+// `size` with one more digit at its end; `None` exactly where that is 2^127 or more.
 fn with_digit(size: u128, digit: u8) -> Option<u128>
     requires { digit < 10 }
     ensures { MatchOption result (2 ^ 127 ≤ size * 10 + digit) (λ more. (more ≡ size * 10 + digit) × (more < 2 ^ 127)) }

@@ -65,7 +65,7 @@ pub fn read_all<S: Source>(alloc: Global, source: &mut S) -> Result<Text, ReadFa
     Err(ReadFail::TooLong)
 }
 
-/// Appends one piece of `source` to `text`, and answers its length: 0 only at the end.
+// Appends one piece of `source` to `text`, and answers its length: 0 only at the end.
 fn read_piece<S: Source>(source: &mut S, text: &mut Text) -> Result<usize, ReadFail>
     requires { length text.old ≤ max_input }
     ensures within { OnOk result (length text.new ≤ max_input + 1) }

@@ -16,7 +16,7 @@ pub fn content_line(line: &[u8]) -> &[u8]
     trimmed(front)
 }
 
-/// The number of bytes before the first `#`.
+// The number of bytes before the first `#`.
 fn comment_start(line: &[u8]) -> usize
     ensures { result ≡ prefix_len (λ b. not (b == 35)) line.now }
 {
@@ -38,7 +38,7 @@ pub fn next_word(line: &[u8], from: usize) -> Option<(usize, usize)>
     Some((start, start + word_length(rest)))
 }
 
-/// The number of bytes before the first blank.
+// The number of bytes before the first blank.
 fn word_length(text: &[u8]) -> usize
     ensures { result ≡ prefix_len (λ b. not (is_blank b)) text.now }
 {
