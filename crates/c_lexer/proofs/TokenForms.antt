@@ -7,9 +7,11 @@ use Rattle.std.specs.Char.{is_ascii_digit}
 use Rattle.std.specs.List.{prefix_len, list_all, list_any}
 use Rattle.std.specs.Str.{bytes_eq}
 use Rattle.std.proofs.lemmas.Slice.Eq.{bytes_eq-Decides}
-use Rattle.c_lexer.specs.Tokens.{begins_name, is_word, begins_number, goes_on, number_len, is_integer, is_one_of, is_pair, is_single, sign_len}
+use Rattle.suite_base.specs.Bytes.{begins_name, is_name_byte}
+use Rattle.c_lexer.specs.Tokens.{begins_number, goes_on, number_len, is_integer, is_one_of, is_pair, is_single, sign_len}
 use Rattle.c_lexer.specs.declared.tokens.TokenKind.{TokenKind}
 use Rattle.c_lexer.specs.declared.tokens.TokenKind.TheVariants.{Name, Integer, Literal, Sign}
+use Rattle.c_lexer.proofs.TokenLemmas.{begins_word}
 use Rattle.c_lexer.specs.TokenForms.{is_name, all_go_on, is_number, single_signs, double_signs, is_sign, is_token_of}
 
 pub and_left : (a b : Bool) → (a && b) ≡ true → a ≡ true
@@ -171,12 +173,12 @@ one_kind text Sign Sign e f = refl
 
 -- ---- how far a front of a text goes that is a token
 
-all_words_front : (m : ℕ) (text : List ℕ) → m ≤ length text → list_all is_word (take m text) ≡ true → m ≤ prefix_len is_word text
+all_words_front : (m : ℕ) (text : List ℕ) → m ≤ length text → list_all is_name_byte (take m text) ≡ true → m ≤ prefix_len is_name_byte text
 all_words_front zero text l h = omega arith
 all_words_front (suc m) [] l h = absurd (omega arith)
 all_words_front (suc m) (b ∷ text) l h =
-    let w : is_word b ≡ true = and_left _ _ h in
-    let more = all_words_front m text (omega arith) (and_right (is_word b) _ h) in
+    let w : is_name_byte b ≡ true = and_left _ _ h in
+    let more = all_words_front m text (omega arith) (and_right (is_name_byte b) _ h) in
     simp w (omega arith)
 
 all_go_front : (before m : ℕ) (text : List ℕ) → m ≤ length text → all_go_on before (take m text) ≡ true → m ≤ number_len before text
@@ -187,10 +189,10 @@ all_go_front before (suc m) (b ∷ text) l h =
     let more = all_go_front b m text (omega arith) (and_right (goes_on before b) _ h) in
     simp w (omega arith)
 
-all_words : (text : List ℕ) → list_all is_word (take (prefix_len is_word text) text) ≡ true
+all_words : (text : List ℕ) → list_all is_name_byte (take (prefix_len is_name_byte text) text) ≡ true
 all_words [] = refl
-all_words (b ∷ text) = elim (cases_Bool (is_word b)) [
-  | inl w ↦ (let n : 1 + prefix_len is_word text ≡ suc (prefix_len is_word text) = omega arith in simp (w, n) (all_words text))
+all_words (b ∷ text) = elim (cases_Bool (is_name_byte b)) [
+  | inl w ↦ (let n : 1 + prefix_len is_name_byte text ≡ suc (prefix_len is_name_byte text) = omega arith in simp (w, n) (all_words text))
   | inr w ↦ simp w refl
 ]
 
@@ -201,22 +203,14 @@ all_go before (b ∷ text) = elim (cases_Bool (goes_on before b)) [
   | inr w ↦ simp w refl
 ]
 
--- a byte that begins a name is in a word, and one that begins a number goes on with it
-begins_word : (d v w u : Bool) → ((v || w) || u) ≡ true → (((d || v) || w) || u) ≡ true
-begins_word true v w u h = refl
-begins_word false v w u h = h
-
-first_word : (b : ℕ) → begins_name b ≡ true → is_word b ≡ true
-first_word b h = begins_word (is_in_range 48 57 b) (is_in_range 65 90 b) (is_in_range 97 122 b) (b == 95) h
-
 -- a digit goes on with a number, and so does a point
-digit_word : (d v w u : Bool) → d ≡ true → (((d || v) || w) || u) ≡ true
-digit_word true v w u h = refl
-digit_word false v w u h = absurd (cc)
+digit_word : (n d : Bool) → d ≡ true → (n || d) ≡ true
+digit_word true d h = refl
+digit_word false d h = h
 
 digit_goes : (before b : ℕ) → is_ascii_digit b ≡ true → goes_on before b ≡ true
 digit_goes before b h =
-    let w : is_word b ≡ true = digit_word (is_in_range 48 57 b) (is_in_range 65 90 b) (is_in_range 97 122 b) (b == 95) h in
+    let w : is_name_byte b ≡ true = digit_word (begins_name b) _ h in
     rw w refl
 
 point_goes : (w p q : Bool) → p ≡ true → ((w || p) || q) ≡ true
@@ -227,7 +221,7 @@ point_goes false false q h = absurd (cc)
 digit_or_point : (b : ℕ) (d : Bool) → (is_ascii_digit b || (b == 46 && d)) ≡ true → goes_on 0 b ≡ true
 digit_or_point b d h = elim (either (is_ascii_digit b) (b == 46 && d) h) [
   | inl e ↦ digit_goes 0 b e
-  | inr p ↦ point_goes (is_word b) (b == 46) _ (and_left (b == 46) d p)
+  | inr p ↦ point_goes (is_name_byte b) (b == 46) _ (and_left (b == 46) d p)
 ]
 
 begins_goes : (text : List ℕ) → begins_number text ≡ true → goes_on 0 (slice_index text 0) ≡ true
@@ -239,12 +233,12 @@ pub record Front (test : Bool) (cut m : ℕ) : Type 0 where
   pub begins : test ≡ true
   pub within : m ≤ cut
 
-pub name_front : (m : ℕ) (text : List ℕ) → m ≤ length text → is_name (take m text) ≡ true → Front (begins_name (slice_index text 0)) (prefix_len is_word text) m
+pub name_front : (m : ℕ) (text : List ℕ) → m ≤ length text → is_name (take m text) ≡ true → Front (begins_name (slice_index text 0)) (prefix_len is_name_byte text) m
 name_front zero text l h = absurd (cc)
 name_front (suc m) [] l h = absurd (cc)
 name_front (suc m) (b ∷ text) l h =
     let n : begins_name b ≡ true = and_left _ _ h in
-    let w : is_word b ≡ true = first_word b n in
+    let w : is_name_byte b ≡ true = begins_word b n in
     let more = all_words_front m text (omega arith) (and_right (begins_name b) _ h) in
     record { begins = n; within = simp w (omega arith) }
 
@@ -287,11 +281,11 @@ sign_first (suc m) (b ∷ text) h = (omega arith, sign_begins (b ∷ take m text
 
 -- ---- what is cut is a token
 
-pub name_token : (text : List ℕ) → begins_name (slice_index text 0) ≡ true → is_name (take (prefix_len is_word text) text) ≡ true
+pub name_token : (text : List ℕ) → begins_name (slice_index text 0) ≡ true → is_name (take (prefix_len is_name_byte text) text) ≡ true
 name_token [] h = absurd (cc)
 name_token (b ∷ text) h =
-    let w : is_word b ≡ true = first_word b h in
-    let n : 1 + prefix_len is_word text ≡ suc (prefix_len is_word text) = omega arith in
+    let w : is_name_byte b ≡ true = begins_word b h in
+    let n : 1 + prefix_len is_name_byte text ≡ suc (prefix_len is_name_byte text) = omega arith in
     simp (w, n) (both _ _ h (all_words text))
 
 begins_short : (b c : ℕ) → goes_on b c ≡ false → (is_ascii_digit b || (b == 46 && is_ascii_digit c)) ≡ true → begins_number (b ∷ []) ≡ true

@@ -7,7 +7,8 @@ use Rattle.std.specs.Char.{is_ascii_digit}
 use Rattle.std.specs.List.{prefix_len}
 use Rattle.c_lexer.specs.declared.tokens.TokenKind.{TokenKind}
 use Rattle.c_lexer.specs.declared.tokens.TokenKind.TheVariants.{Name, Integer, Literal, Sign}
-use Rattle.c_lexer.specs.Tokens.{begins_name, is_word, begins_number, number_len, is_integer, number_kind, sign_len, sign_of, opens_comment, token_at}
+use Rattle.suite_base.specs.Bytes.{begins_name, is_name_byte}
+use Rattle.c_lexer.specs.Tokens.{begins_number, number_len, is_integer, number_kind, sign_len, sign_of, opens_comment, token_at}
 use Rattle.c_lexer.specs.TokenForms.{is_name, is_number, is_sign, is_token_of, IsLongest, HasNoToken}
 use Rattle.c_lexer.proofs.TokenForms.{and_left, either, refuted, in_range, low_no_name, number_no_name, name_front, number_front, sign_front, sign_first, sign_token, name_token, number_token, number_within, one_kind, sign_text_no_name, sign_text_no_number}
 
@@ -31,7 +32,7 @@ number_no_comment text h =
 
 -- ---- what is cut, by what the text begins with
 
-cut_name : (text : List ℕ) → begins_name (slice_index text 0) ≡ true → token_at text ≡ Some (Name, prefix_len is_word text)
+cut_name : (text : List ℕ) → begins_name (slice_index text 0) ≡ true → token_at text ≡ Some (Name, prefix_len is_name_byte text)
 cut_name text h = simp h refl
 
 cut_number : (text : List ℕ) → begins_number text ≡ true → token_at text ≡ Some (number_kind (take (number_len 0 text) text), number_len 0 text)
@@ -53,7 +54,7 @@ pub record Reaches (cut : Option (TokenKind × ℕ)) (m : ℕ) : Type 0 where
 reaches_name : (m : ℕ) (text : List ℕ) → m ≤ length text → is_name (take m text) ≡ true → Reaches (token_at text) m
 reaches_name m text l h =
     let f = name_front m text l h in
-    record { token = (Name, prefix_len is_word text); is = cut_name text f.begins; far = f.within }
+    record { token = (Name, prefix_len is_name_byte text); is = cut_name text f.begins; far = f.within }
 
 reaches_number : (m : ℕ) (text : List ℕ) → m ≤ length text → is_number (take m text) ≡ true → Reaches (token_at text) m
 reaches_number m text l h =
@@ -101,8 +102,8 @@ sign_cut text t (suc n) o k e =
 cut_is_token : (text : List ℕ) (t : TokenKind × ℕ) → token_at text ≡ Some t → IsCut text t
 cut_is_token text t e = elim (cases_Bool (begins_name (slice_index text 0))) [
   | inl n ↦
-      same_cut text (Name, prefix_len is_word text) t (sym (cut_name text n) ∙ e)
-      (record { within = prefix_len-le-length is_word text; form = name_token text n; plain = name_no_comment text n })
+      same_cut text (Name, prefix_len is_name_byte text) t (sym (cut_name text n) ∙ e)
+      (record { within = prefix_len-le-length is_name_byte text; form = name_token text n; plain = name_no_comment text n })
   | inr n ↦ elim (cases_Bool (begins_number text)) [
     | inl m ↦
         same_cut text (number_kind (take (number_len 0 text) text), number_len 0 text) t (sym (cut_number text m) ∙ e)

@@ -1,10 +1,10 @@
 -- Steps over what separates tokens.
-use Rattle.std.proofs.Common.{◌≡◌, ℕ, zero, suc, ◌+◌, ◌-◌, ◌≤◌, ◌==◌, Bool, true, false, if◌then◌else◌, List, [], ◌∷◌, length, drop, Option, Some, None, inl, inr, refl, ap, arith}
+use Rattle.std.proofs.Common.{◌≡◌, ℕ, zero, suc, ◌+◌, ◌-◌, ◌≤◌, ◌==◌, true, false, if◌then◌else◌, List, [], ◌∷◌, length, drop, Option, Some, None, inl, inr, refl, ap, arith}
 use Rattle.std.proofs.lemmas.Bool.Decides.{eqb_tells}
-use Rattle.std.specs.Prelude.{slice_index, ◌||◌}
-use Rattle.std.specs.Int.{is_in_range}
+use Rattle.std.specs.Prelude.{slice_index}
 use Rattle.std.specs.List.{prefix_len}
-use Rattle.c_lexer.specs.Tokens.{separator_len, gap_from, gap, begins_name, is_word}
+use Rattle.suite_base.specs.Bytes.{begins_name, is_name_byte}
+use Rattle.c_lexer.specs.Tokens.{separator_len, gap_from, gap}
 
 abbrev pub plus : ℕ → Option ℕ → Option ℕ
 plus n None = None
@@ -40,11 +40,11 @@ pub gap_goes : (text : List ℕ) (n : ℕ) → n ≡ separator_len text → 1 �
 gap_goes [] n e f h = absurd (omega arith)
 gap_goes (b ∷ text) n e f h = gap_step (separator_len (b ∷ text)) n b text e f h
 
-begins_word : (d v w u : Bool) → ((v || w) || u) ≡ true → (((d || v) || w) || u) ≡ true
-begins_word true v w u h = refl
-begins_word false v w u h = h
+-- a byte that begins a name is one of a name
+pub begins_word : (b : ℕ) → begins_name b ≡ true → is_name_byte b ≡ true
+begins_word b h = simp h refl
 
 -- a name has its first byte
-pub name_moves : (text : List ℕ) → begins_name (slice_index text 0) ≡ true → 1 ≤ prefix_len is_word text
+pub name_moves : (text : List ℕ) → begins_name (slice_index text 0) ≡ true → 1 ≤ prefix_len is_name_byte text
 name_moves [] h = absurd (cc)
-name_moves (b ∷ text) h = let w : is_word b ≡ true = begins_word (is_in_range 48 57 b) (is_in_range 65 90 b) (is_in_range 97 122 b) (b == 95) h in simp w (omega arith)
+name_moves (b ∷ text) h = let w : is_name_byte b ≡ true = begins_word b h in simp w (omega arith)

@@ -5,12 +5,13 @@ use Rattle.std.specs.List.{list_all, list_any}
 use Rattle.std.specs.Str.{bytes_eq}
 use Rattle.c_lexer.specs.declared.tokens.TokenKind.{TokenKind}
 use Rattle.c_lexer.specs.declared.tokens.TokenKind.TheVariants.{Name, Integer, Literal, Sign}
-use Rattle.c_lexer.specs.Tokens.{begins_name, is_word, begins_number, goes_on, is_integer, opens_comment, token_at}
+use Rattle.suite_base.specs.Bytes.{begins_name, is_name_byte}
+use Rattle.c_lexer.specs.Tokens.{begins_number, goes_on, is_integer, opens_comment, token_at}
 
 -- a letter or `_`, then letters, digits and `_`
 abbrev pub is_name : List ℕ → Bool
 is_name [] = false
-is_name (b ∷ more) = begins_name b && list_all is_word more
+is_name (b ∷ more) = begins_name b && list_all is_name_byte more
 
 -- each byte goes on with a number, seen from the byte before it
 abbrev pub all_go_on : ℕ → List ℕ → Bool

@@ -1,8 +1,9 @@
 -- Tokens of C, and what separates them. Each definition speaks of what stands at the front of a text;
 -- a text reads as 0 past its end, and no token or separator has that byte.
 use Rattle.std.specs.Prelude.{ℕ, suc, zero, ◌+◌, ◌-◌, Bool, not, ◌&&◌, ◌||◌, if◌then◌else◌, ◌==◌, List, [], ◌∷◌, length, take, drop, slice_index, Option, Some, None, codes}
-use Rattle.std.specs.Char.{is_ascii_digit, is_ascii_alphabetic, is_ascii_alphanumeric}
+use Rattle.std.specs.Char.{is_ascii_digit}
 use Rattle.std.specs.List.{prefix_len, list_all, list_any}
+use Rattle.suite_base.specs.Bytes.{begins_name, is_name_byte}
 use Rattle.suite_base.specs.Lines.{is_blank}
 use Rattle.c_lexer.specs.declared.tokens.TokenKind.{TokenKind}
 use Rattle.c_lexer.specs.declared.tokens.TokenKind.TheVariants.{Name, Integer, Literal, Sign}
@@ -53,14 +54,6 @@ gap_from zero (b ∷ text) = if separator_len (b ∷ text) == 0 then 0 else suc 
 abbrev pub gap : List ℕ → ℕ
 gap text = gap_from 0 text
 
--- ---- names
-
-abbrev pub begins_name : ℕ → Bool
-begins_name b = is_ascii_alphabetic b || b == 95
-
-abbrev pub is_word : ℕ → Bool
-is_word b = is_ascii_alphanumeric b || b == 95
-
 -- ---- numbers
 
 -- a number begins with a digit, or with a point and a digit
@@ -69,7 +62,7 @@ begins_number text = is_ascii_digit (slice_index text 0) || (slice_index text 0 
 
 -- a number goes on with a letter, a digit, `_` or a point, and after `e` or `E` with a sign
 abbrev pub goes_on : ℕ → ℕ → Bool
-goes_on before b = is_word b || b == 46 || (is_one_of b (codes "+-") && is_one_of before (codes "eE"))
+goes_on before b = is_name_byte b || b == 46 || (is_one_of b (codes "+-") && is_one_of before (codes "eE"))
 
 -- how many bytes of a number follow the byte before
 abbrev pub number_len : ℕ → List ℕ → ℕ
@@ -104,6 +97,6 @@ sign_of (suc n) = Some (Sign, suc n)
 -- The token at the front of a text that begins with no separator. A comment without end is none.
 abbrev pub token_at : List ℕ → Option (TokenKind × ℕ)
 token_at text =
-    if begins_name (slice_index text 0) then Some (Name, prefix_len is_word text)
+    if begins_name (slice_index text 0) then Some (Name, prefix_len is_name_byte text)
     else (if begins_number text then Some (number_kind (take (number_len 0 text) text), number_len 0 text)
     else (if opens_comment text then None else sign_of (sign_len text)))

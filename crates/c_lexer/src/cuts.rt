@@ -3,10 +3,11 @@
 ghost use Rattle.std.specs.Prelude.{◌≡◌, ◌<◌, ◌≤◌, ◌+◌, ◌==◌, not, IfSome, length, slice_index};
 ghost use Rattle.std.specs.Char.{is_ascii_digit};
 ghost use Rattle.std.specs.List.{list_all, prefix_len};
+ghost use Rattle.suite_base.specs.Bytes as bytes;
 ghost use Rattle.c_lexer.specs.Tokens as spec;
 
 use crate::tokens::TokenKind;
-use suite_base::is_blank_byte;
+use suite_base::{begins_name_byte, is_blank_byte, is_name_byte};
 
 // The byte at place `at`, or 0 past the end.
 fn byte(text: &[u8], at: usize) -> u8
@@ -20,20 +21,6 @@ fn is_space(b: u8) -> bool
     ensures { result ≡ spec.is_space b }
 {
     is_blank_byte(b) || b == b'\n'
-}
-
-// Whether a byte is a letter, a digit or `_`.
-fn is_word(b: u8) -> bool
-    ensures { result ≡ spec.is_word b }
-{
-    b.is_ascii_alphanumeric() || b == b'_'
-}
-
-// Whether a byte begins a name.
-fn begins_name(b: u8) -> bool
-    ensures { result ≡ spec.begins_name b }
-{
-    b.is_ascii_alphabetic() || b == b'_'
 }
 
 // How many blanks and newlines begin `text`.
@@ -54,10 +41,10 @@ fn line_len(text: &[u8]) -> usize
 
 // How many letters, digits and `_` begin `text`.
 fn word_len(text: &[u8]) -> usize
-    ensures value { result ≡ prefix_len spec.is_word text.now }
+    ensures value { result ≡ prefix_len bytes.is_name_byte text.now }
     ensures within { result ≤ length text.now }
 {
-    text.iter().take_while(|b| is_word(**b)).count()
+    text.iter().take_while(|b| is_name_byte(**b)).count()
 }
 
 // How many bytes `text` has up to and with its first `*/`.
@@ -122,7 +109,7 @@ fn begins_number(text: &[u8]) -> bool
 fn goes_on(before: u8, b: u8) -> bool
     ensures { result ≡ spec.goes_on before b }
 {
-    is_word(b) || b == b'.' || (b"+-".contains(&b) && b"eE".contains(&before))
+    is_name_byte(b) || b == b'.' || (b"+-".contains(&b) && b"eE".contains(&before))
 }
 
 // How many bytes at the front belong to a number.
@@ -200,7 +187,7 @@ pub fn token_at(text: &[u8]) -> Option<(TokenKind, usize)>
     ensures within { IfSome result (λ t. (1 ≤ t.1) × (t.1 ≤ length text.now)) }
 {
     let first = byte(text, 0);
-    if begins_name(first) {
+    if begins_name_byte(first) {
         return Some((TokenKind::Name, word_len(text)));
     }
     if begins_number(text) {

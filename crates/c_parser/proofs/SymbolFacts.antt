@@ -6,7 +6,8 @@ use Rattle.std.proofs.lemmas.Bool.{eqb-true}
 use Rattle.c_lexer.specs.declared.tokens.TokenKind.{TokenKind}
 use Rattle.c_lexer.specs.declared.tokens.TokenKind.TheVariants as kind
 use Rattle.std.specs.List.{prefix_len}
-use Rattle.c_lexer.specs.Tokens.{is_word, is_one_of, is_pair, is_single, sign_len, sign_of, token_at, begins_name, begins_number, number_kind, number_len, is_integer, opens_comment}
+use Rattle.suite_base.specs.Bytes.{begins_name, is_name_byte}
+use Rattle.c_lexer.specs.Tokens.{is_one_of, is_pair, is_single, sign_len, sign_of, token_at, begins_number, number_kind, number_len, is_integer, opens_comment}
 use Rattle.c_lexer.specs.Readings.{Reading, Lexeme, slice, next, lexeme_at, next_from}
 use Rattle.c_lexer.specs.Readings as lexer
 use Rattle.c_parser.specs.declared.symbols.Symbol.{Symbol}
@@ -117,7 +118,7 @@ token_cut body t false false true n m e = absurd (cc)
 token_cut body t false false false n m e = sign_known body (sign_len body) t refl e
 
 token_known : (body : List ℕ) (t : TokenKind × ℕ) → token_at body ≡ Some t → Known body t
-token_known body t e = token_cut body t (begins_name (slice_index body 0)) (begins_number body) (opens_comment body) (prefix_len is_word body) (number_len 0 body) e
+token_known body t e = token_cut body t (begins_name (slice_index body 0)) (begins_number body) (opens_comment body) (prefix_len is_name_byte body) (number_len 0 body) e
 
 -- the same where it stands in a text
 standing : (text : List ℕ) (from : ℕ) (t : TokenKind × ℕ) → Known (drop from text) t

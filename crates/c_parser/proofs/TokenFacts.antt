@@ -1,12 +1,13 @@
 -- What taking a token does.
 use Rattle.std.proofs.Common.{◌≡◌, ℕ, zero, suc, ◌-◌, ◌≤◌, ◌<◌, ◌==◌, Bool, true, false, if◌then◌else◌, List, [], ◌∷◌, length, drop, Option, Some, None, Ok, inl, inr, refl, ap, sym, ◌∙◌, arith, length-drop}
 use Rattle.std.specs.Prelude.{◌||◌, ◌&&◌, ◌⊎◌}
-use Rattle.std.specs.Int.{is_in_range}
 use denote.Enum.Bare.{same_true, same_false, true_same, false_same}
 use Rattle.c_parser.specs.contracts.symbols.Symbol.{the_type}
 use Rattle.c_lexer.specs.declared.tokens.TokenKind.{TokenKind}
 use Rattle.c_lexer.specs.declared.tokens.TokenKind.TheVariants.{Name}
-use Rattle.c_lexer.specs.Tokens.{token_at, begins_name, begins_number, number_len, goes_on, opens_comment, sign_of}
+use Rattle.suite_base.specs.Bytes.{begins_name}
+use Rattle.suite_base.specs.Numbers.{is_digit}
+use Rattle.c_lexer.specs.Tokens.{token_at, begins_number, number_len, goes_on, opens_comment, sign_of}
 use Rattle.c_lexer.specs.Readings.{Reading, lexeme_at, start}
 use Rattle.c_lexer.proofs.TokenLemmas.{name_moves}
 use Rattle.c_parser.specs.declared.symbols.Symbol.{Symbol}
@@ -61,17 +62,15 @@ some_is {a = a} e = ap (λ o. elim o [ None ↦ a | Some x ↦ x ]) e
 abbrev Long : List ℕ → TokenKind × ℕ → Type 0
 Long text t = (1 ≤ t.1) × (1 ≤ length text)
 
-goes : (d v w u p q x : Bool) → (d || (p && q)) ≡ true → ((((d || v) || w) || u) || p || x) ≡ true
-goes true v w u p q x e = refl
-goes false v w u false q x e = absurd (cc)
-goes false true w u true q x e = refl
-goes false false true u true q x e = refl
-goes false false false true true q x e = refl
-goes false false false false true q x e = refl
+goes : (n d p q x : Bool) → (d || (p && q)) ≡ true → ((n || d) || p || x) ≡ true
+goes true d p q x e = refl
+goes false true p q x e = refl
+goes false false true q x e = refl
+goes false false false q x e = absurd (cc)
 
 number_goes : (b : ℕ) (more : List ℕ) → begins_number (b ∷ more) ≡ true → 1 ≤ number_len 0 (b ∷ more)
 number_goes b more e =
-    let g : goes_on 0 b ≡ true = goes (is_in_range 48 57 b) (is_in_range 65 90 b) (is_in_range 97 122 b) (b == 95) (b == 46) _ _ e in
+    let g : goes_on 0 b ≡ true = goes (begins_name b) (is_digit b) (b == 46) _ _ e in
     simp g (omega arith)
 
 sign_long : (n : ℕ) (t : TokenKind × ℕ) → sign_of n ≡ Some t → 1 ≤ t.1
