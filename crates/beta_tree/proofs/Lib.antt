@@ -8,6 +8,7 @@ pub mod Fissions
 pub mod Fuses
 pub mod Orders
 pub mod Marks
+pub mod Tabled
 pub mod Levels
 pub mod Trees
 pub mod Leaves

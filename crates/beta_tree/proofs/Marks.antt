@@ -85,7 +85,7 @@ marked_all order flags m =
 orders_of_all : (order : List ℕ) → has_all_below (length order) order ≡ true → Orders (length order) order
 orders_of_all order h = orders_of_test (length order) order (rw (same_yes (length order)) h)
 
-entry_is : (order : List ℕ) (i d : ℕ) → i < length order → entry_at order i ≡ get_or order i d
+pub entry_is : (order : List ℕ) (i d : ℕ) → i < length order → entry_at order i ≡ get_or order i d
 entry_is [] i d l = absurd (omega arith)
 entry_is (x ∷ order) zero d l = refl
 entry_is (x ∷ order) (suc i) d l = entry_is order i d (omega arith)

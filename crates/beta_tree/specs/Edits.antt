@@ -1,5 +1,5 @@
 -- What each operation does to one vector.
-use Rattle.std.specs.Prelude.{ℕ, zero, suc, ◌+◌, ◌-◌, ◌==◌, nat_lt, Bool, true, if◌then◌else◌, ◌&&◌, is_some, List, [], ◌∷◌, ◌++◌, length, insert}
+use Rattle.std.specs.Prelude.{◌≡◌, ℕ, zero, suc, ◌+◌, ◌-◌, ◌==◌, nat_lt, Bool, true, if◌then◌else◌, ◌&&◌, is_some, List, [], ◌∷◌, ◌++◌, length, get_or, insert}
 use Rattle.std.specs.List.{list_any}
 use Rattle.std.specs.Cmp.Lexicographic.{pointwise}
 use Rattle.std.proofs.Math.Dec.{eqb}
@@ -67,6 +67,10 @@ fused P n = below (front P) (join_loops (last P) n)
 abbrev pub place_of : ℕ → List ℕ → ℕ
 place_of y [] = 0
 place_of y (z ∷ order) = if z == y then 0 else place_of y order + 1
+
+-- places has the place in order of each number, and lacks those that order lacks
+pub record HasPlaces (order places : List ℕ) : Type 0 where
+  pub at : (y : ℕ) → get_or places y (length order) ≡ place_of y order
 
 -- a child gets its place in order as its number
 abbrev pub renumbered : List ℕ → List ℕ → List ℕ

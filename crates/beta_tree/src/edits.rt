@@ -1,11 +1,12 @@
 //! The edit of one vector by each operation, as a new vector.
 
 ghost use Rattle.std.specs.Prelude.{◌≡◌, ◌+◌, ◌<◌, ◌≤◌, ◌^◌, ◌∷◌, ◌++◌, [], length, IfOk, is_some, true};
-ghost use Rattle.beta_tree.specs.Edits.{below, moved_up as up, split_loop, join_loops, reordered, renumbered, place_of, with_level, make_room};
+ghost use Rattle.beta_tree.specs.Edits.{below, moved_up as up, split_loop, join_loops, reordered, renumbered, with_level, make_room, HasPlaces};
 ghost use Rattle.beta_tree.specs.Vectors.{after as what_follows, Fit};
 
 use crate::copies::{copied, joined};
 use crate::looks::after;
+use crate::tables::place;
 use std::alloc::Global;
 use suite_base::{List, NoMemory};
 
@@ -119,46 +120,38 @@ pub fn join_vector(
     }
 }
 
-// The place of `child` in `order`, the length where it isn't there.
-fn place(order: &[u32], child: u32) -> usize
-    ensures { result ≡ place_of child order.now }
-{
-    for (k, entry) in order.iter().enumerate() {
-        if *entry == child {
-            return k;
-        }
-    }
-    order.len()
-}
-
 // `prefix`, and then `rest` with the place in `order` of its first entry in place of that.
 fn reorder_rest(
     alloc: Global,
     prefix: &[u32],
     order: &[u32],
+    places: &[u32],
     rest: &[u32],
 ) -> Result<List<u32>, NoMemory>
-    requires { Fit (renumbered order.now rest.now) }
+    requires few { length order.now < 2 ^ 32 }
+    requires places { HasPlaces order.now places.now }
     ensures { IfOk result (λ made. made ≡ prefix.now ++ renumbered order.now rest.now) }
 {
     match rest {
-        [child, more @ ..] => joined(alloc, prefix, &[place(order, *child) as u32], more),
+        [child, more @ ..] => joined(alloc, prefix, &[place(order, places, *child)], more),
         [] => copied(alloc, prefix),
     }
 }
 
-/// `vector` after the children of `prefix` got their places in `order` as numbers.
+/// `vector` after the children of `prefix` got their `places` in `order` as numbers.
 pub fn reorder_vector(
     alloc: Global,
     prefix: &[u32],
     order: &[u32],
+    places: &[u32],
     vector: &[u32],
 ) -> Result<List<u32>, NoMemory>
-    requires { Fit (reordered prefix.now order.now vector.now) }
+    requires few { length order.now < 2 ^ 32 }
+    requires places { HasPlaces order.now places.now }
     ensures { IfOk result (λ made. made ≡ reordered prefix.now order.now vector.now) }
 {
     match after(prefix, vector) {
-        Some(rest) => reorder_rest(alloc, prefix, order, rest),
+        Some(rest) => reorder_rest(alloc, prefix, order, places, rest),
         None => copied(alloc, vector),
     }
 }

@@ -9,6 +9,7 @@ pub mod length_laws;
 mod looks;
 mod rebuilds;
 mod refusals;
+mod tables;
 
 pub use betas::Betas;
 pub use laws::{

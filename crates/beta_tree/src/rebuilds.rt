@@ -1,12 +1,13 @@
 //! The edit of all vectors by each operation, as a new list.
 
-ghost use Rattle.std.specs.Prelude.{◌≡◌, ◌+◌, ◌<◌, ◌^◌, ◌∷◌, ◌++◌, [], length, map, IfOk, OnOk};
+ghost use Rattle.std.specs.Prelude.{◌≡◌, ◌+◌, ◌<◌, ◌^◌, ◌∷◌, ◌++◌, [], length, map, true, IfOk, OnOk};
 ghost use Rattle.std.specs.List.{flat_map};
-ghost use Rattle.beta_tree.specs.Edits.{below, split_loop, join_loops, reordered, with_level, make_room, leaf_split};
+ghost use Rattle.beta_tree.specs.Edits.{below, split_loop, join_loops, reordered, is_permutation_of, with_level, make_room, leaf_split};
 ghost use Rattle.beta_tree.specs.Vectors.{Fit, AllFit, LongerUnder};
 
 use crate::copies::{copied, next_sibling};
 use crate::edits::{join_vector, level_vector, reorder_vector, room_vector, split_vector};
+use crate::tables::places_in;
 use suite_base::{List, NoMemory};
 
 /// The vectors after the fission of `p` after `siblings` at its child `first`.
@@ -52,13 +53,15 @@ pub fn reorder_all(
     prefix: &[u32],
     order: &[u32],
 ) -> Result<List<List<u32>>, NoMemory>
-    requires { AllFit (map (reordered prefix.now order.now) vectors.now) }
+    requires few { length order.now < 2 ^ 32 }
+    requires permutes { is_permutation_of (length order.now) order.now ≡ true }
     ensures { IfOk result (λ made. made ≡ map (reordered prefix.now order.now) vectors.now) }
 {
     let alloc = vectors.allocator();
+    let places = places_in(alloc, order)?;
     let mut made = List::new(alloc);
     for vector in vectors.as_slice() {
-        made.push(reorder_vector(alloc, prefix, order, vector.as_slice())?)?;
+        made.push(reorder_vector(alloc, prefix, order, places.as_slice(), vector.as_slice())?)?;
     }
     Ok(made)
 }
