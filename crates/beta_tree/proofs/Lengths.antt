@@ -1,10 +1,10 @@
 -- The lengths of vectors after each operation, and the sizes of their entries.
-use Rattle.std.proofs.Common.{◌≡◌, ℕ, ◌+◌, ◌<◌, ◌≤◌, ◌==◌, ◌-◌, nat_lt, Bool, true, false, if◌then◌else◌, inl, inr, Some, List, [], ◌∷◌, ◌++◌, length, refl, ap, sym, ◌∙◌, subst, arith, length-append}
+use Rattle.std.proofs.Common.{◌≡◌, ℕ, ◌+◌, ◌==◌, ◌-◌, nat_lt, true, false, if◌then◌else◌, inl, inr, List, [], ◌∷◌, ◌++◌, length, refl, ap, ◌∙◌, subst, arith, length-append}
 use Rattle.std.specs.Prelude.{insert, is_some}
 use Rattle.std.proofs.lemmas.List.Edits.{length-insert}
-use Rattle.beta_tree.specs.Vectors.{after, In, Apart, ApartFromAll, PrefixFree, IsTree}
-use Rattle.beta_tree.specs.Edits.{fissioned, fused, reordered, with_level, below, front, last, make_room, next_sibling, split_loop, split_children, join_loops, appended_children, renumbered, moved_up, moved_down}
-use Rattle.beta_tree.specs.Lengths.{KeepsLengths, OperationsKeepLengths, LevelAddsOne, SiblingIsAsLong, EntriesAreFew, LeafIsOne}
+use Rattle.beta_tree.specs.Vectors.{after, In, Apart, ApartFromAll, PrefixFree}
+use Rattle.beta_tree.specs.Edits.{below, front, last, make_room, split_loop, split_children, join_loops, appended_children, renumbered, moved_up, moved_down}
+use Rattle.beta_tree.specs.Lengths.{OperationsKeepLengths, LevelAddsOne, SiblingIsAsLong, EntriesAreFew, LeafIsOne}
 use Rattle.beta_tree.proofs.Places.{after_append}
 use Rattle.beta_tree.proofs.Trees.{child_below, children_few}
 

@@ -1,6 +1,6 @@
 -- What the operations do to the lengths of vectors, and how large entries are.
-use Rattle.std.specs.Prelude.{◌≡◌, ℕ, ◌+◌, ◌<◌, ◌≤◌, true, Some, List, [], ◌∷◌, ◌++◌, length}
-use Rattle.beta_tree.specs.Vectors.{after, In, IsTree}
+use Rattle.std.specs.Prelude.{◌≡◌, ℕ, ◌+◌, ◌<◌, ◌≤◌, List, ◌∷◌, ◌++◌, length}
+use Rattle.beta_tree.specs.Vectors.{In, IsTree}
 use Rattle.beta_tree.specs.Edits.{fissioned, fused, reordered, with_level, below, front, last, make_room, next_sibling}
 
 -- fission, fuse, reorder and the room for a new leaf keep the length of each vector

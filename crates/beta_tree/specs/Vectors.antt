@@ -1,7 +1,7 @@
 -- A list of beta vectors is a tree of loops: each vector is a leaf, and each of its proper beginnings that is not empty is a
 -- loop round it. The statements keep their order in the list, whatever their places in the tree.
 pub use Rattle.row_core.specs.Dense.{heads, rests, lesser, dense_among, dense_of}
-use Rattle.std.specs.Prelude.{◌≡◌, ◌≢◌, ℕ, ℤ, ◌<◌, ◌^◌, ◌==◌, Bool, true, false, if◌then◌else◌, not, ◌&&◌, ◌⊎◌, Option, Some, None, List, [], ◌∷◌, ◌++◌, length, map, filter, int_lt}
+use Rattle.std.specs.Prelude.{◌≡◌, ◌≢◌, ℕ, ◌<◌, ◌^◌, ◌==◌, Bool, true, false, if◌then◌else◌, not, ◌&&◌, ◌⊎◌, Option, Some, None, List, [], ◌∷◌, ◌++◌, length}
 use Rattle.std.specs.List.{filter_map, list_any}
 use Rattle.std.specs.Set.{distinct_count}
 use Rattle.std.proofs.Math.Dec.{eqb}
