@@ -4,3 +4,4 @@ pub mod Regions
 pub mod Occurrences
 pub mod Translation
 pub mod Laws
+pub mod Layers

@@ -8,8 +8,10 @@ use Rattle.c_parser.specs.declared.tree.AssignSign.{AssignSign}
 use Rattle.c_parser.specs.declared.tree.AssignSign.TheVariants as sign
 use Rattle.c_parser.specs.declared.tree.Assign.{Assign}
 use Rattle.c_parser.specs.declared.tree.Node.{Node}
+use Rattle.c_parser.specs.declared.tree.Branch.{Branch as BranchTree}
+use Rattle.c_parser.specs.declared.tree.Loop.{Loop as LoopTree}
 use Rattle.c_parser.specs.declared.tree.Node.TheOpen.{Node-F, Branch-F, Loop-F}
-use Rattle.c_parser.specs.declared.tree.Node.TheFolds.{fold-Node}
+use Rattle.c_parser.specs.declared.tree.Node.TheFolds.{fold-Node, fold-Branch, fold-Loop}
 use Rattle.clan_extract.specs.Regions.{Comparison}
 use Rattle.region_trees.specs.Terms.{Located, Element, order_of, bytes_of, number_of, sum_of, value_of, target_of}
 
@@ -85,6 +87,12 @@ loop_says source x =
 -- what a statement of the source says, and what all of a region say
 abbrev pub statement_of : List ℕ → Node → Statement
 statement_of source = fold-Node Statement Statement Statement (node_says source) (branch_says source) (loop_says source)
+
+abbrev pub branch_of : List ℕ → BranchTree → Statement
+branch_of source = fold-Branch Statement Statement Statement (node_says source) (branch_says source) (loop_says source)
+
+abbrev pub loop_of : List ℕ → LoopTree → Statement
+loop_of source = fold-Loop Statement Statement Statement (node_says source) (branch_says source) (loop_says source)
 
 abbrev pub statements_of : List ℕ → List Node → Statements
 statements_of source [] = NoStatements

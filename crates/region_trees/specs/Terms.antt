@@ -15,8 +15,16 @@ use Rattle.c_parser.specs.declared.tree.UnarySign.{UnarySign}
 use Rattle.c_parser.specs.declared.tree.Sum.{Sum}
 use Rattle.c_parser.specs.declared.tree.Value.{Value}
 use Rattle.c_parser.specs.declared.tree.Target.{Target}
+use Rattle.c_parser.specs.declared.tree.Product.{Product}
+use Rattle.c_parser.specs.declared.tree.Unary.{Unary}
+use Rattle.c_parser.specs.declared.tree.Primary.{Primary}
+use Rattle.c_parser.specs.declared.tree.Compare.{Compare}
+use Rattle.c_parser.specs.declared.tree.Equal.{Equal}
+use Rattle.c_parser.specs.declared.tree.And.{And}
+use Rattle.c_parser.specs.declared.tree.Or.{Or}
+use Rattle.c_parser.specs.declared.tree.Arms.{Arms}
 use Rattle.c_parser.specs.declared.tree.Primary.TheOpen.{Primary-F, And-F, Arms-F, Compare-F, Equal-F, Or-F, Product-F, Sum-F, Target-F, Unary-F, Value-F}
-use Rattle.c_parser.specs.declared.tree.Primary.TheFolds.{fold-Sum, fold-Value, fold-Target}
+use Rattle.c_parser.specs.declared.tree.Primary.TheFolds.{fold-Sum, fold-Value, fold-Target, fold-Product, fold-Unary, fold-Primary, fold-Compare, fold-Equal, fold-And, fold-Or, fold-Arms}
 use Rattle.clan_extract.specs.Regions.{Comparison, IsLess, IsLessOrEqual, IsGreater, IsGreaterOrEqual, IsEqual, IsUnequal}
 
 -- a sign between two operands
@@ -165,7 +173,7 @@ unary_says x = all_signed x.signs x.primary
 abbrev pub value_says : Value-F Term Term Pair Term Term Term Term Located Element Term Located → Located
 value_says x = record { at = x.at; term = chosen x.test x.arms }
 
--- what a sum, a value and a target of the source say
+-- what each form of the source says
 abbrev pub sum_of : List ℕ → Sum → Located
 sum_of source =
     fold-Sum Term Term Pair Term Term Term Term Located Element Term Located
@@ -179,4 +187,44 @@ value_of source =
 abbrev pub target_of : List ℕ → Target → Element
 target_of source =
     fold-Target Term Term Pair Term Term Term Term Located Element Term Located
+    (primary_says source) and_says arms_says compare_says equal_says or_says product_says sum_says (target_says source) unary_says value_says
+
+abbrev pub product_of : List ℕ → Product → Term
+product_of source =
+    fold-Product Term Term Pair Term Term Term Term Located Element Term Located
+    (primary_says source) and_says arms_says compare_says equal_says or_says product_says sum_says (target_says source) unary_says value_says
+
+abbrev pub unary_of : List ℕ → Unary → Term
+unary_of source =
+    fold-Unary Term Term Pair Term Term Term Term Located Element Term Located
+    (primary_says source) and_says arms_says compare_says equal_says or_says product_says sum_says (target_says source) unary_says value_says
+
+abbrev pub primary_of : List ℕ → Primary → Term
+primary_of source =
+    fold-Primary Term Term Pair Term Term Term Term Located Element Term Located
+    (primary_says source) and_says arms_says compare_says equal_says or_says product_says sum_says (target_says source) unary_says value_says
+
+abbrev pub compare_of : List ℕ → Compare → Term
+compare_of source =
+    fold-Compare Term Term Pair Term Term Term Term Located Element Term Located
+    (primary_says source) and_says arms_says compare_says equal_says or_says product_says sum_says (target_says source) unary_says value_says
+
+abbrev pub equal_of : List ℕ → Equal → Term
+equal_of source =
+    fold-Equal Term Term Pair Term Term Term Term Located Element Term Located
+    (primary_says source) and_says arms_says compare_says equal_says or_says product_says sum_says (target_says source) unary_says value_says
+
+abbrev pub and_of : List ℕ → And → Term
+and_of source =
+    fold-And Term Term Pair Term Term Term Term Located Element Term Located
+    (primary_says source) and_says arms_says compare_says equal_says or_says product_says sum_says (target_says source) unary_says value_says
+
+abbrev pub or_of : List ℕ → Or → Term
+or_of source =
+    fold-Or Term Term Pair Term Term Term Term Located Element Term Located
+    (primary_says source) and_says arms_says compare_says equal_says or_says product_says sum_says (target_says source) unary_says value_says
+
+abbrev pub arms_of : List ℕ → Arms → Pair
+arms_of source =
+    fold-Arms Term Term Pair Term Term Term Term Located Element Term Located
     (primary_says source) and_says arms_says compare_says equal_says or_says product_says sum_says (target_says source) unary_says value_says
