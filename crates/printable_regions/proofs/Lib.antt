@@ -1,0 +1,11 @@
+pub mod Bytes
+pub mod Occurrences
+pub mod Placed
+pub mod Scans
+pub mod Clean
+pub mod BodyLines
+pub mod Goes
+pub mod Symbols
+pub mod Values
+pub mod Derived
+pub mod Printable
