@@ -15,7 +15,7 @@ use Rattle.elim_core.specs.declared.verdicts.ElimFail.TheVariants as cause
 use Rattle.elim_core.specs.Peaks.{Peak, peak, IsRefutedBy}
 use Rattle.scop_core.specs.ScopData.{ScopData}
 use Rattle.scop_core.specs.ScopData.{extended}
-use Rattle.scop_core.specs.declared.statements.Extension.{Extension}
+use Rattle.scop_data.specs.declared.statements.Extension.{Extension}
 use Rattle.dependence_systems.specs.declared.dependences.Dep.{Dep}
 use Rattle.dependence_systems.specs.Sides.{Side, own_sides}
 use Rattle.dependence_systems.specs.Entries.{entries}

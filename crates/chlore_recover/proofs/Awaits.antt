@@ -7,7 +7,7 @@ use Rattle.beta_tree.proofs.Places.{bool_tells, same_no}
 use Rattle.suite_base.specs.declared.refusals.Refusal.{Refusal}
 use Rattle.scop_core.specs.Assembly.{or_else}
 use Rattle.scop_core.specs.ScopData.{ScopData}
-use Rattle.scop_core.specs.declared.statements.Statement.{Statement}
+use Rattle.scop_data.specs.declared.statements.Statement.{Statement}
 use Rattle.clay_script.specs.declared.commands.Command.{Command}
 use Rattle.clay_commands.specs.declared.leaves.Leaf.{Leaf}
 use Rattle.clay_commands.specs.Drafts.{Draft, betas_of, is_under, scheduled, draft_after, drafts_after}

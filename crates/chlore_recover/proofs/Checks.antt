@@ -1,6 +1,6 @@
 -- Worked cases of the definitions.
 use Rattle.std.proofs.Common.{◌≡◌, ◌-◌, ◌^◌, ℤ, pos, negsuc, true, false, List, [], ◌∷◌, refl}
-use Rattle.scop_core.specs.declared.affines.Affine.{Affine}
+use Rattle.scop_data.specs.declared.affines.Affine.{Affine}
 use Rattle.clay_script.specs.declared.commands.Command.TheVariants.{Interchange, Skew, Shift, Reverse}
 use Rattle.chlore_recover.specs.Recoverable.{ends_apart, triangle_of}
 use Rattle.chlore_recover.specs.LevelScripts.{level_script, forms_along}

@@ -13,8 +13,8 @@ use Rattle.beta_tree.specs.Edits.{place_of}
 use Rattle.beta_tree.proofs.Distinct.{member_from_In}
 use Rattle.beta_tree.proofs.Places.{same_yes, same_no}
 use Rattle.beta_tree.proofs.Orders.{and_left, and_right, place_below}
-use Rattle.scop_core.specs.declared.affines.Affine.{Affine}
-use Rattle.scop_core.specs.declared.schedules.Schedule.{Schedule}
+use Rattle.scop_data.specs.declared.affines.Affine.{Affine}
+use Rattle.scop_data.specs.declared.schedules.Schedule.{Schedule}
 use Rattle.clay_script.specs.declared.commands.Command.{Command}
 use Rattle.clay_script.specs.declared.commands.Command.TheVariants.{Interchange}
 use Rattle.clay_commands.specs.Arguments.{place}

@@ -11,8 +11,8 @@ use Rattle.beta_tree.proofs.Distinct.{member_from_In}
 use Rattle.beta_tree.proofs.Places.{bool_tells, same_yes, In-map}
 use Rattle.beta_tree.proofs.Orders.{and_left, and_right, Orders, orders_of_test}
 use Rattle.row_core.specs.Rows.{scale}
-use Rattle.scop_core.specs.declared.affines.Affine.{Affine}
-use Rattle.scop_core.specs.declared.schedules.Schedule.{Schedule}
+use Rattle.scop_data.specs.declared.affines.Affine.{Affine}
+use Rattle.scop_data.specs.declared.schedules.Schedule.{Schedule}
 use Rattle.clay_script.specs.declared.commands.Command.{Command}
 use Rattle.chlore_recover.specs.Triangles.{IsSign, IsTriangle, AreSigned, last_value, last_place, differ, leads, row_ending_at, sign_at}
 use Rattle.chlore_recover.specs.Recoverable.{plain, rows_of, AreClansFrom, triangle_of}

@@ -8,8 +8,8 @@ use Rattle.std.proofs.Math.IntN.{*ℤ-zero}
 use Rattle.std.proofs.lemmas.List.{get_or_append_left}
 use Rattle.std.proofs.lemmas.List.FromFn.{get_or-map-range_with_len, length-map-range_with_len}
 use Rattle.row_core.specs.Rows.{scale, add_rows, combined_weight, pair_weight}
-use Rattle.scop_core.specs.declared.affines.Affine.{Affine}
-use Rattle.scop_core.specs.declared.schedules.Schedule.{Schedule}
+use Rattle.scop_data.specs.declared.affines.Affine.{Affine}
+use Rattle.scop_data.specs.declared.schedules.Schedule.{Schedule}
 use Rattle.scop_core.specs.SolvedRows.{zeros, unit}
 use Rattle.scop_core.specs.AffineSums.{plus_multiple, sum_weight}
 use Rattle.clay_script.specs.declared.commands.Command.TheVariants.{Skew}

@@ -3,8 +3,8 @@ use Rattle.std.proofs.Common.{◌≡◌, ℤ, pos, unsigned_abs, ℕ, zero, suc,
 use Rattle.std.specs.List.{range_with_len}
 use Rattle.std.specs.Ordering.{int_eq}
 use Rattle.std.proofs.lemmas.List.FromFn.{map-range_with_len_more}
-use Rattle.scop_core.specs.declared.affines.Affine.{Affine}
-use Rattle.scop_core.specs.declared.schedules.Schedule.{Schedule}
+use Rattle.scop_data.specs.declared.affines.Affine.{Affine}
+use Rattle.scop_data.specs.declared.schedules.Schedule.{Schedule}
 use Rattle.scop_core.specs.SolvedRows.{zeros, unit}
 use Rattle.clay_script.specs.declared.commands.Command.TheVariants.{Skew}
 use Rattle.chlore_recover.specs.Triangles.{IsTriangleFrom}

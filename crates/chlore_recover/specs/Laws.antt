@@ -8,8 +8,8 @@ use Rattle.clay_commands.specs.Arguments.{are_natural, prefix_in}
 use Rattle.clay_commands.specs.Drafts.{Draft, betas_of}
 use Rattle.clay_commands.specs.Refusals.{refusal_at}
 use Rattle.clay_commands.specs.Steps.{AllUnder}
-use Rattle.scop_core.specs.declared.affines.Affine.{Affine}
-use Rattle.scop_core.specs.declared.schedules.Schedule.{Schedule}
+use Rattle.scop_data.specs.declared.affines.Affine.{Affine}
+use Rattle.scop_data.specs.declared.schedules.Schedule.{Schedule}
 use Rattle.chlore_recover.specs.Recoverable.{ends_apart, triangle_of, rows_of, AreClansFrom}
 use Rattle.chlore_recover.specs.LevelScripts.{level_script}
 use Rattle.chlore_recover.specs.Runs.{at_levels, Suits, Runs, AllSmall, AreForms}

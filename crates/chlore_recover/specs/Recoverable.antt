@@ -1,8 +1,8 @@
 -- Which statements a script is recovered for: originals in Clan's form, and recoverable targets.
 use Rattle.std.specs.Prelude.{◌≡◌, ℤ, pos, ℕ, ◌+◌, ◌==◌, Bool, ◌&&◌, List, [], ◌∷◌, length, map}
 use Rattle.std.specs.List.{range_with_len}
-use Rattle.scop_core.specs.declared.affines.Affine.{Affine}
-use Rattle.scop_core.specs.declared.statements.Statement.{Statement}
+use Rattle.scop_data.specs.declared.affines.Affine.{Affine}
+use Rattle.scop_data.specs.declared.statements.Statement.{Statement}
 use Rattle.scop_core.specs.SolvedRows.{zeros, unit}
 use Rattle.chlore_recover.specs.Triangles.{Signed, IsSign, IsFactored, end_in_signs, differ, last_place, row_ending_at}
 

@@ -1,8 +1,8 @@
 -- Commands on one statement's levels that are not refused for it.
 use Rattle.std.specs.Prelude.{◌≡◌, ◌<◌, ◌^◌, ℤ, pos, int_le, ℕ, Bool, true, false, ◌&&◌, List, [], ◌∷◌, length, unsigned_abs}
 use Rattle.std.specs.Ordering.{int_eq}
-use Rattle.scop_core.specs.declared.affines.Affine.{Affine}
-use Rattle.scop_core.specs.declared.schedules.Schedule.{Schedule}
+use Rattle.scop_data.specs.declared.affines.Affine.{Affine}
+use Rattle.scop_data.specs.declared.schedules.Schedule.{Schedule}
 use Rattle.scop_core.specs.AffineSums.{sum_weight, move_weight}
 use Rattle.clay_script.specs.declared.commands.Command.{Command}
 use Rattle.clay_script.specs.declared.commands.Command.TheVariants.{Interchange, Skew, Shift, Reverse}

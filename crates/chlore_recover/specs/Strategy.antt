@@ -4,7 +4,7 @@ use Rattle.std.specs.List.{range_with_len, flat_map}
 use Rattle.beta_tree.specs.Vectors.{children_of, dense_of}
 use Rattle.beta_tree.specs.Edits.{fissioned, place_of, same_vector}
 use Rattle.beta_trails.specs.Trails.{agreement}
-use Rattle.scop_core.specs.declared.affines.Affine.{Affine}
+use Rattle.scop_data.specs.declared.affines.Affine.{Affine}
 use Rattle.scop_core.specs.ScopData.{ScopData, betas_in}
 use Rattle.scop_core.specs.Meaning.{statement_at, interleaved}
 use Rattle.clay_script.specs.declared.commands.Command.{Command}

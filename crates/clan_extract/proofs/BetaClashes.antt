@@ -6,7 +6,7 @@ use Rattle.std.proofs.lemmas.Bool.Decides.{Decides-int_eq}
 use Rattle.suite_base.specs.declared.refusals.Refusal.TheVariants.{BetaClash}
 use Rattle.scop_core.specs.Sequences.{In}
 use Rattle.scop_core.specs.Assembly.{vectors_clash, clash_among, first_clash}
-use Rattle.scop_core.specs.declared.statements.Statement.{Statement}
+use Rattle.scop_data.specs.declared.statements.Statement.{Statement}
 use Rattle.scop_core.proofs.ReadBackPieces.{none_or, none_if}
 use Rattle.clan_extract.specs.Regions.{Node, For, If, Block, Assign, Nodes, NoNodes, Then}
 use Rattle.clan_extract.specs.Placements.{Placed, in_loop, in_test, placed, placed_all, one_if_any, children, children_of_all}

@@ -7,9 +7,9 @@ use Rattle.std.proofs.lemmas.Bool.{leb-true}
 use Rattle.row_core.specs.Rows.{dot, add_rows, scale}
 use Rattle.row_core.proofs.Ring.{mul_add_z, mul_le_z, mul_neg_z, neg_mul_z}
 use Rattle.scop_core.specs.Meaning.{affine_at, floor_of}
-use Rattle.scop_core.proofs.Floors.{floor_greatest, floor_meets_rows}
+use Rattle.scop_data.proofs.Floors.{floor_greatest, floor_meets_rows}
 use Rattle.scop_core.specs.SolvedRows.{zeros}
-use Rattle.scop_core.specs.declared.affines.Affine.{Affine}
+use Rattle.scop_data.specs.declared.affines.Affine.{Affine}
 use Rattle.clan_extract.specs.Regions.{Expression, Number, Name, Sum, Difference, Product, Negation, Maximum, Minimum, Ceiling, Floor, Remainder}
 use Rattle.clan_extract.specs.Execution.{Binding, Setting, value_of}
 use Rattle.clan_extract.specs.Forms.{has_names, is_affine, innermost, multiple, opposite_of, form}

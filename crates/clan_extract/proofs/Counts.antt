@@ -4,7 +4,7 @@ use Rattle.std.specs.Prelude.{max, nat_lt, nat_eq, unsigned_abs}
 use Rattle.std.proofs.lemmas.List.{length-append, length-map}
 use Rattle.std.proofs.lemmas.Bool.Decides.{Decides-ltb}
 use Rattle.relation_core.specs.declared.part_rows.RowKind.TheVariants.{Equal}
-use Rattle.scop_core.specs.declared.affines.Affine.{Affine}
+use Rattle.scop_data.specs.declared.affines.Affine.{Affine}
 use Rattle.scop_core.specs.declared.limits.PartCount.TheVariants.{LocalCount, RowCount}
 use Rattle.scop_core.specs.Assembly.{some_above}
 use Rattle.clan_extract.specs.Regions.{Expression, Number, Name, Sum, Difference, Product, Negation, Maximum, Minimum, Ceiling, Floor, Remainder, Comparison, IsLess, IsLessOrEqual, IsGreater, IsGreaterOrEqual, IsEqual, IsUnequal, Condition, Compare, Both, Either, Opposite}

@@ -6,7 +6,7 @@ use Rattle.row_core.specs.Rows.{dot}
 use Rattle.row_core.specs.Linear.{dot_add, dot_scale, mul_add_z, mul_comm_z}
 use Rattle.scop_core.specs.SolvedRows.{zeros}
 use Rattle.scop_core.specs.Meaning.{affine_at}
-use Rattle.scop_core.specs.declared.affines.Affine.{Affine}
+use Rattle.scop_data.specs.declared.affines.Affine.{Affine}
 use Rattle.clan_extract.specs.Regions.{Expression, Number, Name, Sum, Difference, Product, Negation, Maximum, Minimum, Ceiling, Floor, Remainder, is_among}
 use Rattle.clan_extract.specs.Execution.{Binding, Setting, parameter_value, value_inside, name_value, value_of}
 use Rattle.clan_extract.specs.Forms.{has_names, is_affine, innermost, first_of_name, constant_form, sum_of, multiple, opposite_of, difference, form}

@@ -9,7 +9,7 @@ use Rattle.scop_core.specs.Memory.{Memory, initial, step_of}
 use Rattle.scop_core.specs.Meaning.{Instance, IsInstance, InDomain, statement_at, affine_at, interleaved, stamp_of, stamp_in, stamp, event_in, step}
 use Rattle.scop_core.specs.SolvedRows.{zeros}
 use Rattle.scop_core.specs.ScopData.{ScopData}
-use Rattle.scop_core.specs.declared.statements.Statement.{Statement}
+use Rattle.scop_data.specs.declared.statements.Statement.{Statement}
 use Rattle.clan_extract.specs.Regions.{Node, For, If, Block, Assign, Nodes, NoNodes, Then}
 use Rattle.clan_extract.specs.Execution.{Binding, Setting}
 use Rattle.clan_extract.specs.Placements.{Head, Round, Loop, Test, Placed, in_loop, in_test, placed, placed_all, children, children_of_all, loop_names, directions}

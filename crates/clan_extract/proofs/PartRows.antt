@@ -8,7 +8,7 @@ use Rattle.relation_core.specs.Points.{Meets, MeetsAll, coordinates, LiesIn, Lie
 use Rattle.relation_core.specs.declared.part_rows.PartRow.{PartRow}
 use Rattle.scop_core.specs.SolvedRows.{zeros}
 use Rattle.scop_core.specs.Meaning.{affine_at}
-use Rattle.scop_core.proofs.SolvedDots.{dot_append, row_value}
+use Rattle.schedule_forms.proofs.SolvedDots.{dot_append, row_value}
 use Rattle.clan_extract.specs.Constraints.{FormRow, Constraint}
 use Rattle.clan_extract.specs.Scops.{padded, locals_in, local_columns, part_row, part_rows, part}
 use Rattle.clan_extract.proofs.Forms.{dot_zeros}

@@ -7,21 +7,21 @@ use Rattle.std.proofs.lemmas.List.{length-map}
 use Rattle.std.proofs.lemmas.List.Elements.{All-nil, All-cons, All-map}
 use Rattle.std.proofs.lemmas.Bool.Decides.{Decides-int_eq}
 use Rattle.scop_core.specs.Sequences.{In}
-use Rattle.scop_core.specs.declared.schedules.Schedule.{Schedule}
-use Rattle.scop_core.specs.declared.accesses.Access.{Access}
-use Rattle.scop_core.specs.declared.accesses.AccessKind.TheVariants.{Read, Write}
+use Rattle.scop_data.specs.declared.schedules.Schedule.{Schedule}
+use Rattle.scop_data.specs.declared.accesses.Access.{Access}
+use Rattle.scop_data.specs.declared.accesses.AccessKind.TheVariants.{Read, Write}
 use Rattle.scop_core.specs.declared.limits.PartCount.TheVariants.{LocalCount, RowCount}
-use Rattle.scop_core.specs.declared.statements.Statement.{Statement}
-use Rattle.scop_core.specs.declared.raw_pieces.RawStatement.{RawStatement}
+use Rattle.scop_data.specs.declared.statements.Statement.{Statement}
+use Rattle.scop_data.specs.declared.raw_pieces.RawStatement.{RawStatement}
 use Rattle.scop_core.specs.ScopData.{ScopData}
 use Rattle.scop_core.specs.SolvedRows.{schedule_part}
 use Rattle.scop_core.specs.Assembly.{some_above, iterators_of, statement_limit, first_limit, is_solved, first_unsolved, solved_statement, solved_statements, solved_accesses, first_clash, HasInputs, HasShapes}
 use Rattle.scop_core.specs.SolvedForm.{is_scattering, schedule_of}
 use Rattle.scop_core.specs.Printable.{are_names, is_name, has_no_array, are_arrays, has_part, IsDomainPart, IsPrintableStatement}
 use Rattle.scop_core.specs.ReadBack.{IsSolvedSchedule, IsSolvedAccess, access_piece, statement_pieces}
-use Rattle.scop_core.proofs.ReadBackLists.{and_true}
+use Rattle.schedule_forms.proofs.ReadBackLists.{and_true}
 use Rattle.scop_core.proofs.ReadBackPieces.{or_none, none_or, if_none, none_if, or_false, not_above, at_most, schedule_length, Small, pieces_outputs, pieces_locals, pieces_rows, pieces_parts, pieces_solved, pieces_same, none_passed, none_unless}
-use Rattle.scop_core.proofs.ReadBackSolved.{schedule_reads_back}
+use Rattle.schedule_forms.proofs.ReadBackSolved.{schedule_reads_back}
 use Rattle.clan_extract.specs.Regions.{Reference, Node, For, If, Block, Assign, Nodes, NoNodes, Then, numbered, names_if_any}
 use Rattle.clan_extract.specs.Placements.{Placed, in_loop, in_test, placed, placed_all, children, children_of_all, loop_names, directions}
 use Rattle.clan_extract.specs.Constraints.{parts_of}

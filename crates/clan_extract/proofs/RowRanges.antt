@@ -5,7 +5,7 @@ use Rattle.std.proofs.lemmas.List.{length-append}
 use Rattle.row_core.specs.Rows.{add_rows}
 use Rattle.relation_core.specs.declared.part_rows.PartRow.{PartRow}
 use Rattle.relation_core.specs.declared.part_rows.RowKind.TheVariants.{Equal}
-use Rattle.scop_core.specs.declared.affines.Affine.{Affine}
+use Rattle.scop_data.specs.declared.affines.Affine.{Affine}
 use Rattle.scop_core.specs.SolvedRows.{zeros}
 use Rattle.clan_extract.specs.Regions.{Expression, Number, Name, Sum, Difference, Product, Negation, Maximum, Minimum, Ceiling, Floor, Remainder, Comparison, IsLess, IsLessOrEqual, IsGreater, IsGreaterOrEqual, IsEqual, IsUnequal, Condition, Compare, Both, Either, Opposite}
 use Rattle.clan_extract.specs.Forms.{opposite_of, difference, form}

@@ -4,9 +4,9 @@ use Rattle.std.specs.Prelude.{codes, true, false}
 use Rattle.relation_core.specs.Systems.{System}
 use Rattle.relation_core.specs.declared.part_rows.PartRow.{PartRow}
 use Rattle.relation_core.specs.declared.part_rows.RowKind.TheVariants.{Equal, AtLeast}
-use Rattle.scop_core.specs.declared.affines.Affine.{Affine}
-use Rattle.scop_core.specs.declared.accesses.AccessKind.TheVariants.{Read, Write}
-use Rattle.scop_core.specs.declared.statements.Statement.{Statement}
+use Rattle.scop_data.specs.declared.affines.Affine.{Affine}
+use Rattle.scop_data.specs.declared.accesses.AccessKind.TheVariants.{Read, Write}
+use Rattle.scop_data.specs.declared.statements.Statement.{Statement}
 use Rattle.clan_extract.specs.Regions.{Expression, Number, Name, Sum, Difference, Product, Maximum, Minimum, Ceiling, Floor, Remainder, Comparison, IsLess, IsLessOrEqual, IsGreaterOrEqual, IsEqual, IsUnequal, Condition, Compare, Both, Either, Node, Nodes, NoNodes, Then, For, If, Block, Assign}
 use Rattle.clan_extract.specs.Constraints.{parts_of_condition}
 use Rattle.clan_extract.specs.Scops.{scop_of, is_head, are_affine_nodes}

@@ -5,8 +5,8 @@ use Rattle.std.proofs.lemmas.Int.{ints}
 use Rattle.std.proofs.lemmas.List.{length-map}
 use Rattle.std.proofs.lemmas.List.Elements.{All-nil, All-cons}
 use Rattle.scop_core.specs.Sequences.{In}
-use Rattle.scop_core.specs.declared.affines.Affine.{Affine}
-use Rattle.scop_core.specs.declared.accesses.Access.{Access}
+use Rattle.scop_data.specs.declared.affines.Affine.{Affine}
+use Rattle.scop_data.specs.declared.accesses.Access.{Access}
 use Rattle.scop_core.specs.declared.limits.PartCount.TheVariants.{OutputCount}
 use Rattle.scop_core.specs.SolvedRows.{zeros, HasSizes}
 use Rattle.scop_core.specs.Assembly.{some_above, the_part}

@@ -4,8 +4,8 @@ use Rattle.std.specs.Prelude.{flat_map, filter}
 use Rattle.scop_core.specs.Sequences.{In, fold_steps}
 use Rattle.scop_core.specs.Memory.{Cell, App, Memory, terms_at, Use, Event, store_each, cells_of, is_writing, is_read, is_maybe_written, step_of}
 use Rattle.scop_core.specs.Meaning.{affine_at, use_at}
-use Rattle.scop_core.specs.declared.accesses.AccessKind.{AccessKind}
-use Rattle.scop_core.specs.declared.accesses.AccessKind.TheVariants.{Read, Write}
+use Rattle.scop_data.specs.declared.accesses.AccessKind.{AccessKind}
+use Rattle.scop_data.specs.declared.accesses.AccessKind.TheVariants.{Read, Write}
 use Rattle.clan_extract.specs.Regions.{Expression, Reference, Assignment, Node, For, If, Block, Assign, Nodes, NoNodes, Then, is_array, array_references, number_in}
 use Rattle.clan_extract.specs.Execution.{Binding, Setting, value_of, truth_of, loop_values, cell_of, assigned, run_node, run_nodes}
 use Rattle.clan_extract.specs.Forms.{is_affine, form}

@@ -5,7 +5,7 @@ use Rattle.std.proofs.lemmas.Int.{ints}
 use Rattle.std.proofs.lemmas.Bool.{eqb-true}
 use Rattle.row_core.proofs.Ring.{add_mul_z, mul_comm_z, mul_neg_z, neg_mul_z, mul_nonneg_z, cancel_z}
 use Rattle.relation_core.specs.declared.part_rows.RowKind.TheVariants.{Equal}
-use Rattle.scop_core.specs.declared.affines.Affine.{Affine}
+use Rattle.scop_data.specs.declared.affines.Affine.{Affine}
 use Rattle.scop_core.specs.Sequences.{In}
 use Rattle.clan_extract.specs.Regions.{Comparison, IsLess, IsLessOrEqual, IsGreater, IsGreaterOrEqual, IsEqual, IsUnequal}
 use Rattle.clan_extract.specs.Execution.{Binding, Setting, value_of, loop_values, AsLongAs}

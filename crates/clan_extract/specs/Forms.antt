@@ -2,7 +2,7 @@
 use Rattle.std.specs.Prelude.{ℕ, List, [], ◌∷◌, length, ℤ, pos, negsuc, ◌+ℤ◌, ◌*ℤ◌, Bool, true, false, cond, not, ◌&&◌, ◌||◌, bytes_eq}
 use Rattle.row_core.specs.Rows.{add_rows, scale}
 use Rattle.scop_core.specs.SolvedRows.{zeros}
-use Rattle.scop_core.specs.declared.affines.Affine.{Affine}
+use Rattle.scop_data.specs.declared.affines.Affine.{Affine}
 use Rattle.clan_extract.specs.Regions.{Expression, Number, Name, Sum, Difference, Product, Negation, Maximum, Minimum, Ceiling, Floor, Remainder, is_among}
 
 -- a name stands in the text of the expression

@@ -6,8 +6,8 @@ use Rattle.suite_base.specs.declared.refusals.Which.TheVariants.{Statements, Par
 use Rattle.suite_base.specs.declared.refusals.Where.TheVariants.{Statement as OfStatement}
 use Rattle.relation_core.specs.Systems.{System}
 use Rattle.relation_core.specs.declared.part_rows.PartRow.{PartRow}
-use Rattle.scop_core.specs.declared.affines.Affine.{Affine}
-use Rattle.scop_core.specs.declared.accesses.Access.{Access}
+use Rattle.scop_data.specs.declared.affines.Affine.{Affine}
+use Rattle.scop_data.specs.declared.accesses.Access.{Access}
 use Rattle.scop_core.specs.declared.limits.PartCount.TheVariants.{LocalCount, RowCount}
 use Rattle.scop_core.specs.Assembly.{or_else, some_above}
 use Rattle.clan_extract.specs.Regions.{Expression, Number, Name, Sum, Difference, Product, Negation, Maximum, Minimum, Ceiling, Floor, Remainder, Condition, Compare, Both, Either, Opposite, Reference, Nodes}

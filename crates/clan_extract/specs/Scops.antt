@@ -3,11 +3,11 @@ use Rattle.std.specs.Prelude.{◌≡◌, ℕ, zero, suc, ◌+◌, List, [], ◌�
 use Rattle.relation_core.specs.Systems.{System}
 use Rattle.relation_core.specs.declared.part_rows.PartRow.{PartRow}
 use Rattle.scop_core.specs.SolvedRows.{zeros, with_columns}
-use Rattle.scop_core.specs.declared.affines.Affine.{Affine}
-use Rattle.scop_core.specs.declared.accesses.Access.{Access}
-use Rattle.scop_core.specs.declared.accesses.AccessKind.{AccessKind}
-use Rattle.scop_core.specs.declared.accesses.AccessKind.TheVariants.{Read, Write}
-use Rattle.scop_core.specs.declared.statements.Statement.{Statement}
+use Rattle.scop_data.specs.declared.affines.Affine.{Affine}
+use Rattle.scop_data.specs.declared.accesses.Access.{Access}
+use Rattle.scop_data.specs.declared.accesses.AccessKind.{AccessKind}
+use Rattle.scop_data.specs.declared.accesses.AccessKind.TheVariants.{Read, Write}
+use Rattle.scop_data.specs.declared.statements.Statement.{Statement}
 use Rattle.scop_core.specs.ScopData.{ScopData}
 use Rattle.clan_extract.specs.Regions.{Expression, Number, Maximum, Minimum, Ceiling, Floor, Remainder, Comparison, IsLess, IsLessOrEqual, IsGreater, IsGreaterOrEqual, IsEqual, IsUnequal, Condition, Compare, Both, Either, Opposite, Reference, Assignment, Node, For, If, Block, Assign, Nodes, NoNodes, Then, array_references, number_in, numbered, names_if_any}
 use Rattle.clan_extract.specs.Execution.{Setting}

@@ -3,7 +3,7 @@ use Rattle.std.proofs.Common.{◌≡◌, ℕ, List, [], ◌∷◌, ℤ, pos, neg
 use Rattle.std.specs.Prelude.{map}
 use Rattle.suite_base.specs.declared.refusals.Refusal.TheVariants.{NoBeta, NotALoop, BadLevel, BadArgument, Overflow}
 use Rattle.suite_base.specs.declared.refusals.Where.TheVariants as count
-use Rattle.scop_core.specs.declared.affines.Affine.{Affine}
+use Rattle.scop_data.specs.declared.affines.Affine.{Affine}
 use Rattle.scop_core.specs.ScopData.{ScopData}
 use Rattle.scop_core.specs.Meaning.{Instance, stamp}
 use Rattle.clay_script.specs.declared.commands.Command.{Command}

@@ -6,7 +6,7 @@ use Rattle.std.proofs.lemmas.List.{length-map}
 use Rattle.std.proofs.lemmas.List.Elements.{All-head, All-tail, All-cons, All-nil, All-map, All-weaker}
 use Rattle.row_core.specs.Dense.{dense_among, dense_of, rests}
 use Rattle.beta_tree.specs.Vectors.{Apart, ApartFromAll, PrefixFree, NoneEmpty, IsTree}
-use Rattle.scop_core.specs.declared.statements.Statement.{Statement}
+use Rattle.scop_data.specs.declared.statements.Statement.{Statement}
 use Rattle.scop_core.specs.ScopData.{ScopData, betas_in}
 use Rattle.scop_core.specs.Order.{IsPrefix}
 use Rattle.scop_core.specs.Validity.{IsValid}

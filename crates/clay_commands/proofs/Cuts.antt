@@ -13,7 +13,7 @@ use Rattle.beta_tree.specs.Answers.{HasCause as CauseOfBetas, level_answer}
 use Rattle.beta_tree.proofs.Places.{after_append, from_In-under}
 use Rattle.beta_tree.proofs.Trees.{some_under}
 use Rattle.beta_tree.proofs.Orders.{and_right}
-use Rattle.scop_core.specs.declared.statements.Statement.{Statement}
+use Rattle.scop_data.specs.declared.statements.Statement.{Statement}
 use Rattle.scop_core.specs.Assembly.{HasCause}
 use Rattle.clay_script.specs.declared.commands.Command.{Command}
 use Rattle.clay_script.specs.declared.commands.Command.TheVariants.{Fission, Fuse, Reorder, Interchange, Skew, Shift, Reverse, Stripmine, Tile, Iss}

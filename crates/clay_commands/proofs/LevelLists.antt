@@ -3,7 +3,7 @@ use Rattle.std.proofs.Common.{◌≡◌, ℕ, ◌<◌, Some, List, length, get_o
 use Rattle.std.specs.Prelude.{slice_get, slice_set, swap}
 use Rattle.std.proofs.lemmas.Option.{get_or_from_slice_get}
 use Rattle.std.proofs.lemmas.List.Edits.{swap_is}
-use Rattle.scop_core.specs.declared.affines.Affine.{Affine}
+use Rattle.scop_data.specs.declared.affines.Affine.{Affine}
 use Rattle.clay_commands.specs.Drafts.{no_form, form_at}
 
 pub swapped : (xs ys zs : List Affine) (i j : ℕ) (copy moved : Affine) → i < length xs → j < length xs → copy ≡ form_at xs j → slice_get xs i ≡ Some moved

@@ -4,8 +4,8 @@ use Rattle.std.specs.Prelude.{codes}
 use Rattle.relation_core.specs.Systems.{System}
 use Rattle.relation_core.specs.declared.part_rows.PartRow.{PartRow}
 use Rattle.relation_core.specs.declared.part_rows.RowKind.TheVariants.{AtLeast}
-use Rattle.scop_core.specs.declared.affines.Affine.{Affine}
-use Rattle.scop_core.specs.declared.statements.Statement.{Statement}
+use Rattle.scop_data.specs.declared.affines.Affine.{Affine}
+use Rattle.scop_data.specs.declared.statements.Statement.{Statement}
 use Rattle.scop_core.specs.ScopData.{ScopData}
 
 abbrev pub at_least : List ℤ → PartRow

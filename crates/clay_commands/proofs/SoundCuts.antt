@@ -11,10 +11,10 @@ use Rattle.beta_tree.proofs.Orders.{and_right}
 use Rattle.row_core.specs.Rows.{entry}
 use Rattle.suite_base.specs.declared.refusals.Refusal.TheVariants.{Limit}
 use Rattle.suite_base.specs.declared.refusals.Which.TheVariants.{Levels, Locals}
-use Rattle.scop_core.specs.declared.affines.Affine.{Affine}
-use Rattle.scop_core.specs.declared.schedules.Floor.{Floor}
-use Rattle.scop_core.specs.declared.schedules.Schedule.{Schedule}
-use Rattle.scop_core.specs.declared.statements.Statement.{Statement}
+use Rattle.scop_data.specs.declared.affines.Affine.{Affine}
+use Rattle.scop_data.specs.declared.schedules.Floor.{Floor}
+use Rattle.scop_data.specs.declared.schedules.Schedule.{Schedule}
+use Rattle.scop_data.specs.declared.statements.Statement.{Statement}
 use Rattle.scop_core.specs.AffineSums.{widened, last_floor}
 use Rattle.scop_core.specs.SolvedRows.{HasSizes, PairFits, zeros}
 use Rattle.scop_core.specs.ReadBack.{UsesEarlier}

@@ -6,9 +6,9 @@ use Rattle.std.proofs.lemmas.List.Edits.{length-swap}
 use Rattle.std.proofs.lemmas.List.Elements.{All-head, All-tail, All-cons, All-nil, All-set, All-get_or}
 use Rattle.beta_tree.proofs.Places.{bool_tells}
 use Rattle.row_core.specs.Rows.{add_rows, scale}
-use Rattle.scop_core.specs.declared.affines.Affine.{Affine}
-use Rattle.scop_core.specs.declared.schedules.Schedule.{Schedule}
-use Rattle.scop_core.specs.declared.statements.Statement.{Statement}
+use Rattle.scop_data.specs.declared.affines.Affine.{Affine}
+use Rattle.scop_data.specs.declared.schedules.Schedule.{Schedule}
+use Rattle.scop_data.specs.declared.statements.Statement.{Statement}
 use Rattle.scop_core.specs.AffineSums.{plus_multiple, moved, negative}
 use Rattle.scop_core.specs.SolvedRows.{HasSizes}
 use Rattle.scop_core.specs.ReadBack.{IsSolvedSchedule}

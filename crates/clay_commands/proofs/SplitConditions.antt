@@ -2,7 +2,7 @@
 use Rattle.std.proofs.Common.{◌≡◌, ℕ, ◌==◌, Bool, true, ◌&&◌, Option, List, length, ap, ◌∙◌, ℤ, negsuc, neg_ℤ, ◌+ℤ◌, map}
 use Rattle.suite_base.specs.declared.refusals.Refusal.{Refusal}
 use Rattle.beta_tree.specs.Vectors.{is_leaf}
-use Rattle.scop_core.specs.declared.statements.Statement.{Statement}
+use Rattle.scop_data.specs.declared.statements.Statement.{Statement}
 use Rattle.clay_commands.specs.Drafts.{Draft, betas_of, restricted}
 use Rattle.clay_commands.specs.Refusals.{all_under, level_then}
 

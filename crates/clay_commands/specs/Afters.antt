@@ -1,7 +1,7 @@
 -- The SCoP after a script, and when there is one.
 use Rattle.std.specs.Prelude.{◌≡◌, pos, true, Option, List, [], map}
 use Rattle.suite_base.specs.declared.refusals.Refusal.{Refusal}
-use Rattle.scop_core.specs.declared.statements.Statement.{Statement}
+use Rattle.scop_data.specs.declared.statements.Statement.{Statement}
 use Rattle.scop_core.specs.ScopData.{ScopData}
 use Rattle.clay_script.specs.declared.commands.Command.{Command}
 use Rattle.clay_commands.specs.declared.edited.Edited.{Edited}

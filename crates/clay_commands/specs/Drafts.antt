@@ -5,10 +5,10 @@ use Rattle.beta_tree.specs.Vectors.{after, children_of, dense_of}
 use Rattle.beta_tree.specs.Edits.{fissioned, fused, reordered, with_level, below, front, last, make_room, next_sibling, same_vector}
 use Rattle.relation_core.specs.Systems.{System, with_row}
 use Rattle.relation_core.specs.declared.part_rows.RowKind.TheVariants.{AtLeast}
-use Rattle.scop_core.specs.declared.affines.Affine.{Affine}
-use Rattle.scop_core.specs.declared.schedules.Floor.{Floor}
-use Rattle.scop_core.specs.declared.schedules.Schedule.{Schedule}
-use Rattle.scop_core.specs.declared.statements.Statement.{Statement}
+use Rattle.scop_data.specs.declared.affines.Affine.{Affine}
+use Rattle.scop_data.specs.declared.schedules.Floor.{Floor}
+use Rattle.scop_data.specs.declared.schedules.Schedule.{Schedule}
+use Rattle.scop_data.specs.declared.statements.Statement.{Statement}
 use Rattle.scop_core.specs.ScopData.{ScopData, betas_in}
 use Rattle.scop_core.specs.SolvedRows.{zeros}
 use Rattle.scop_core.specs.AffineSums.{plus_multiple, moved, negative, widened, last_floor}

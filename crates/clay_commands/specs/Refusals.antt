@@ -10,8 +10,8 @@ use Rattle.beta_tree.specs.declared.refusals.BetaFail.{BetaFail}
 use Rattle.beta_tree.specs.declared.refusals.BetaFail.TheVariants as beta
 use Rattle.beta_tree.specs.Vectors.{no_statement, is_leaf}
 use Rattle.beta_tree.specs.Answers.{fission_answer, fuse_answer, reorder_answer}
-use Rattle.scop_core.specs.declared.affines.Affine.{Affine}
-use Rattle.scop_core.specs.declared.statements.Statement.{Statement}
+use Rattle.scop_data.specs.declared.affines.Affine.{Affine}
+use Rattle.scop_data.specs.declared.statements.Statement.{Statement}
 use Rattle.scop_core.specs.AffineSums.{sum_weight, move_weight}
 use Rattle.scop_core.specs.Assembly.{or_else}
 use Rattle.clay_script.specs.declared.commands.Command.{Command}

@@ -1,7 +1,7 @@
 -- What holds of the leaves between two commands of a script that is not refused: closed, they are statements of a SCoP.
 use Rattle.std.specs.Prelude.{ℕ, ◌≡◌, ◌≤◌, ◌<◌, ◌^◌, unsigned_abs, true, None, List, length, All}
-use Rattle.scop_core.specs.declared.statements.Statement.{Statement}
-use Rattle.scop_core.specs.declared.raw_pieces.RawStatement.{RawStatement}
+use Rattle.scop_data.specs.declared.statements.Statement.{Statement}
+use Rattle.scop_data.specs.declared.raw_pieces.RawStatement.{RawStatement}
 use Rattle.scop_core.specs.ReadBack.{statement_pieces}
 use Rattle.scop_core.specs.Printable.{is_body}
 use Rattle.scop_core.specs.Shapes.{IsShapedStatement}

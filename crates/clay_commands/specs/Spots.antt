@@ -5,7 +5,7 @@ use Rattle.std.proofs.Common.{get_or}
 use Rattle.row_core.specs.Rows.{dot, entry}
 use Rattle.beta_tree.specs.Vectors.{dense_of}
 use Rattle.beta_tree.specs.Edits.{leaf_split, same_vector}
-use Rattle.scop_core.specs.declared.statements.Statement.{Statement}
+use Rattle.scop_data.specs.declared.statements.Statement.{Statement}
 use Rattle.scop_core.specs.ScopData.{ScopData, betas_in}
 use Rattle.scop_core.specs.Meaning.{statement_at, floor_of, floors_after, levels_at, interleaved}
 use Rattle.clay_script.specs.declared.commands.Command.{Command}

@@ -5,8 +5,8 @@ use Rattle.suite_base.specs.declared.refusals.Refusal.TheVariants as refusal
 use Rattle.suite_base.specs.declared.refusals.Where.TheVariants as count
 use Rattle.suite_base.specs.declared.refusals.Fail.{Fail}
 use Rattle.suite_base.specs.declared.refusals.Fail.TheVariants as fail
-use Rattle.scop_core.specs.declared.affines.Affine.{Affine}
-use Rattle.scop_core.specs.declared.statements.Statement.{Statement}
+use Rattle.scop_data.specs.declared.affines.Affine.{Affine}
+use Rattle.scop_data.specs.declared.statements.Statement.{Statement}
 use Rattle.scop_core.specs.AffineSums.{HaveOneSize}
 use Rattle.scop_core.specs.Assembly.{or_else}
 use Rattle.beta_tree.specs.Edits.{same_vector}

@@ -15,7 +15,7 @@ use Rattle.relation_core.specs.declared.part_rows.PartRow.{PartRow}
 use Rattle.farkas_cert.specs.Texts.{certificate_line}
 use Rattle.farkas_cert.specs.Certificates.{Valid, IsTooHeavy}
 use Rattle.scop_core.specs.ScopData.{ScopData, others}
-use Rattle.scop_core.specs.declared.statements.Extension.{Extension}
+use Rattle.scop_data.specs.declared.statements.Extension.{Extension}
 use Rattle.dependence_systems.specs.declared.dependences.Dep.{Dep}
 use Rattle.dependence_systems.specs.Sides.{Side, own_sides}
 use Rattle.dependence_systems.specs.Entries.{entries}

@@ -20,7 +20,7 @@ use Rattle.relation_core.specs.declared.part_rows.RowKind.TheVariants.{Equal, At
 use Rattle.farkas_cert.specs.Texts.{certificate_line, certificate_read, multipliers_read}
 use Rattle.farkas_cert.proofs.TextLaws.{line_is, reads_back_law}
 use Rattle.scop_core.specs.Printable.{has_no}
-use Rattle.scop_core.proofs.ReadBackLists.{other_number}
+use Rattle.schedule_forms.proofs.ReadBackLists.{other_number}
 use Rattle.dependence_systems.specs.declared.dependences.Dep.{Dep}
 use Rattle.dependence_systems.specs.declared.dependences.DepKind.{DepKind}
 use Rattle.dependence_systems.specs.declared.dependences.DepKind.TheVariants.{Raw, War, Waw}

@@ -7,7 +7,7 @@ use Rattle.suite_base.specs.Words.{content, words, begins_word, without_comment}
 use Rattle.suite_base.proofs.LineCuts.{bool_tells}
 use Rattle.suite_base.proofs.WordCuts.{words-trim_front}
 use Rattle.scop_core.specs.Printable.{has_no}
-use Rattle.scop_core.proofs.ReadBackLists.{other_number}
+use Rattle.schedule_forms.proofs.ReadBackLists.{other_number}
 
 abbrev all_blank : List ℕ → Bool
 all_blank [] = true

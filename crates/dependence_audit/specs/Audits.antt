@@ -9,7 +9,7 @@ use Rattle.suite_base.specs.declared.refusals.Which.TheVariants.{Systems}
 use Rattle.suite_base.specs.Limits.{max_systems}
 use Rattle.relation_core.specs.Systems.{System}
 use Rattle.scop_core.specs.ScopData.{ScopData}
-use Rattle.scop_core.specs.declared.statements.Extension.{Extension}
+use Rattle.scop_data.specs.declared.statements.Extension.{Extension}
 use Rattle.dependence_systems.specs.declared.dependences.Dep.{Dep}
 use Rattle.dependence_systems.specs.Sides.{Side, own_sides}
 use Rattle.dependence_systems.specs.Entries.{entries}

@@ -19,8 +19,8 @@ use Rattle.relation_core.specs.Systems.{System, IsWellFormed, columns, row_at}
 use Rattle.relation_core.specs.Layouts as layout
 use Rattle.farkas_cert.specs.Texts.{certificate_line}
 use Rattle.scop_core.specs.Printable.{has_no, end_line, are_kept_lines}
-use Rattle.scop_core.proofs.SolvedShapes.{both}
-use Rattle.scop_core.proofs.ReadBackLists.{and_true, false_if, other_number}
+use Rattle.schedule_forms.proofs.SolvedShapes.{both}
+use Rattle.schedule_forms.proofs.ReadBackLists.{and_true, false_if, other_number}
 use Rattle.suite_base.proofs.LineCuts.{bool_tells}
 use Rattle.std.proofs.lemmas.Slice.Eq.{bytes_eq-Decides}
 use Rattle.dependence_systems.specs.declared.dependences.Dep.{Dep}

@@ -6,7 +6,7 @@ use Rattle.suite_base.specs.Words.{spaced}
 use Rattle.relation_core.specs.Systems.{System}
 use Rattle.relation_core.specs.Layouts.{header_text, row_text}
 use Rattle.farkas_cert.specs.Texts.{certificate_line}
-use Rattle.scop_core.specs.declared.statements.Extension.{Extension}
+use Rattle.scop_data.specs.declared.statements.Extension.{Extension}
 use Rattle.dependence_systems.specs.declared.dependences.Dep.{Dep}
 use Rattle.dependence_systems.specs.declared.dependences.DepKind.{DepKind}
 use Rattle.dependence_systems.specs.declared.dependences.DepKind.TheVariants.{Raw, War, Waw}

@@ -1,6 +1,6 @@
 -- Two statements whose spans are apart have no entries.
 use Rattle.std.proofs.Common.{◌≡◌, ℕ, List, ◌++◌, IsSome, is_some, Some, ap, sym, ◌∙◌, subst, append-nil}
-use Rattle.scop_core.specs.declared.statements.Statement.{Statement}
+use Rattle.scop_data.specs.declared.statements.Statement.{Statement}
 use Rattle.scop_core.specs.ScopData.{ScopData}
 use Rattle.dependence_systems.specs.declared.dependences.Dep.{Dep}
 use Rattle.dependence_systems.specs.declared.spans.Span.{Span}

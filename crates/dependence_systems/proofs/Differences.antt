@@ -8,10 +8,10 @@ use Rattle.row_core.specs.Linear.{mul_add_z, dot_scale, dot_combined}
 use Rattle.row_core.proofs.Ring.{mul_one_z}
 use Rattle.relation_core.specs.Points.{Meets}
 use Rattle.relation_core.specs.declared.part_rows.RowKind.TheVariants.{Equal, AtLeast}
-use Rattle.scop_core.specs.declared.affines.Affine.{Affine}
+use Rattle.scop_data.specs.declared.affines.Affine.{Affine}
 use Rattle.scop_core.specs.SolvedRows.{zeros, HasSizes}
 use Rattle.scop_core.specs.Meaning.{affine_at}
-use Rattle.scop_core.proofs.SolvedDots.{dot_append}
+use Rattle.schedule_forms.proofs.SolvedDots.{dot_append}
 use Rattle.dependence_systems.specs.declared.widths.Widths.{Widths}
 use Rattle.dependence_systems.specs.declared.widths.Comparison.{Comparison}
 use Rattle.dependence_systems.specs.declared.widths.Comparison.TheVariants.{Subscripts, EqualLevels, LessLevels, GreaterLevels}

@@ -2,13 +2,13 @@
 use Rattle.std.proofs.Common.{◌≡◌, ℕ, List, [], map, length, Bool, true, false, if◌then◌else◌, Option, Some, None, refl, sym, subst}
 use Rattle.std.specs.List.{flat_map, range_with_len}
 use Rattle.relation_core.specs.Systems.{System}
-use Rattle.scop_core.specs.declared.accesses.Access.{Access}
+use Rattle.scop_data.specs.declared.accesses.Access.{Access}
 use Rattle.scop_core.specs.Sequences.{In}
 use Rattle.dependence_systems.specs.declared.dependences.Dep.{Dep}
 use Rattle.dependence_systems.specs.declared.dependences.DepKind.{DepKind}
 use Rattle.dependence_systems.specs.declared.dependences.Ends.{Ends}
 use Rattle.scop_core.specs.LevelOrder.{IsLevel}
-use Rattle.scop_core.proofs.LevelOrder.{levels_are_listed}
+use Rattle.scop_data.proofs.LevelOrder.{levels_are_listed}
 use Rattle.dependence_systems.specs.Sides.{Side, member}
 use Rattle.dependence_systems.specs.Entries.{numbered, kind_between, can_meet, ends_of, levels_of, at_parts, first_entry, entries_by, entries_from, between, entries}
 use Rattle.dependence_systems.proofs.Members.{in_flat_map, from_flat_map, in_map, from_map, numbered_member, member_numbered, member_of_range, range_of_member}

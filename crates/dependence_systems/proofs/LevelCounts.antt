@@ -1,7 +1,7 @@
 -- A level is one of both schedules.
 use Rattle.std.proofs.Common.{◌≡◌, ℕ, zero, suc, ◌-◌, ◌<◌, ◌≤◌, List, length, ℤ, refl, ap, ◌∙◌, arith}
-use Rattle.scop_core.specs.declared.affines.Affine.{Affine}
-use Rattle.scop_core.specs.declared.schedules.Schedule.{Schedule}
+use Rattle.scop_data.specs.declared.affines.Affine.{Affine}
+use Rattle.scop_data.specs.declared.schedules.Schedule.{Schedule}
 use Rattle.scop_core.specs.LevelOrder.{common_loops, IsLevel}
 use Rattle.dependence_systems.specs.declared.widths.Widths.{Widths}
 use Rattle.dependence_systems.specs.Fits.{SchedulesFit}

@@ -5,17 +5,17 @@ use Rattle.std.proofs.lemmas.List.{length-map}
 use Rattle.std.proofs.lemmas.List.Elements.{All-head, All-tail}
 use Rattle.relation_core.specs.Systems.{System}
 use Rattle.relation_core.specs.Points.{LiesIn, LiesInSome}
-use Rattle.scop_core.specs.declared.accesses.Access.{Access}
-use Rattle.scop_core.specs.declared.accesses.AccessKind.{AccessKind}
-use Rattle.scop_core.specs.declared.accesses.AccessKind.TheVariants.{Read, Write, MayWrite}
+use Rattle.scop_data.specs.declared.accesses.Access.{Access}
+use Rattle.scop_data.specs.declared.accesses.AccessKind.{AccessKind}
+use Rattle.scop_data.specs.declared.accesses.AccessKind.TheVariants.{Read, Write, MayWrite}
 use Rattle.scop_core.specs.Sequences.{In}
 use Rattle.scop_core.specs.Memory.{Cell, is_writing}
 use Rattle.scop_core.specs.Meaning.{Instance, use_at, affine_at, levels_at}
 use Rattle.scop_core.specs.Held.{IsFormed}
 use Rattle.scop_core.specs.Printable.{IsContext, IsDomainPart}
 use Rattle.scop_core.specs.ReadBack.{IsSolvedSchedule, IsSolvedAccess}
-use Rattle.scop_core.proofs.SolvedShapes.{both}
-use Rattle.scop_core.proofs.LevelOrder.{schedules_order_at_a_level}
+use Rattle.schedule_forms.proofs.SolvedShapes.{both}
+use Rattle.scop_data.proofs.LevelOrder.{schedules_order_at_a_level}
 use Rattle.dependence_systems.specs.declared.dependences.Dep.{Dep}
 use Rattle.dependence_systems.specs.declared.dependences.DepKind.{DepKind}
 use Rattle.dependence_systems.specs.declared.dependences.DepKind.TheVariants.{Raw, War, Waw}

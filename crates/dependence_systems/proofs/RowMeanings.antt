@@ -8,12 +8,12 @@ use Rattle.relation_core.specs.Systems.{ReachTo}
 use Rattle.relation_core.specs.Points.{Meets, MeetsAll}
 use Rattle.relation_core.specs.declared.shapes.Shape.{Shape}
 use Rattle.relation_core.specs.declared.part_rows.PartRow.{PartRow}
-use Rattle.scop_core.specs.declared.affines.Affine.{Affine}
-use Rattle.scop_core.specs.declared.schedules.Floor.{Floor}
+use Rattle.scop_data.specs.declared.affines.Affine.{Affine}
+use Rattle.scop_data.specs.declared.schedules.Floor.{Floor}
 use Rattle.scop_core.specs.SolvedRows.{zeros, raised, with_columns, low_row, high_row, floor_rows, HasSizes}
 use Rattle.scop_core.specs.Meaning.{affine_at, levels_at}
-use Rattle.scop_core.proofs.ReadBackLists.{length_raised}
-use Rattle.scop_core.proofs.ReadBackRows.{first}
+use Rattle.schedule_forms.proofs.ReadBackLists.{length_raised}
+use Rattle.schedule_forms.proofs.ReadBackRows.{first}
 use Rattle.dependence_systems.specs.declared.widths.Widths.{Widths}
 use Rattle.dependence_systems.specs.declared.widths.Topic.{Topic}
 use Rattle.scop_core.specs.LevelOrder.{EqualUpTo, LessAfter}

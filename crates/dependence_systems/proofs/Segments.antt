@@ -5,7 +5,7 @@ use Rattle.std.proofs.lemmas.List.{length-replicate, length-append}
 use Rattle.row_core.specs.Rows.{dot}
 use Rattle.relation_core.specs.Points.{coordinates}
 use Rattle.scop_core.specs.SolvedRows.{zeros}
-use Rattle.scop_core.proofs.SolvedDots.{dot_append}
+use Rattle.schedule_forms.proofs.SolvedDots.{dot_append}
 use Rattle.dependence_systems.specs.declared.widths.Widths.{Widths}
 use Rattle.dependence_systems.specs.declared.widths.Topic.TheVariants.{Context, SourcePart, TargetPart, SourceFloors, TargetFloors}
 use Rattle.dependence_systems.specs.Systems.{in_columns, placed}

@@ -5,12 +5,12 @@ use Rattle.std.proofs.lemmas.List.{take-append-drop, length-append}
 use Rattle.relation_core.specs.Systems.{System}
 use Rattle.relation_core.specs.Points.{MeetsAll, LiesIn, coordinates}
 use Rattle.relation_core.proofs.Points.{meets_append, meets_front, meets_back}
-use Rattle.scop_core.specs.declared.schedules.Schedule.{Schedule}
-use Rattle.scop_core.specs.declared.schedules.Floor.{Floor}
+use Rattle.scop_data.specs.declared.schedules.Schedule.{Schedule}
+use Rattle.scop_data.specs.declared.schedules.Floor.{Floor}
 use Rattle.scop_core.specs.Printable.{IsContext}
 use Rattle.scop_core.specs.SolvedRows.{floor_part}
 use Rattle.scop_core.specs.Meaning.{affine_at, floor_of, floors_after, levels_at}
-use Rattle.scop_core.proofs.FloorRows.{floor_rows_mean}
+use Rattle.schedule_forms.proofs.FloorRows.{floor_rows_mean}
 use Rattle.scop_core.specs.ReadBack.{AreSolvedFloors, IsSolvedSchedule}
 use Rattle.scop_core.specs.LevelOrder.{common_loops, OrdersAt, IsLevel, level_values}
 use Rattle.dependence_systems.specs.Fits.{PairingFits}

@@ -6,12 +6,12 @@ use Rattle.relation_core.specs.Systems.{System, ReachTo}
 use Rattle.relation_core.specs.Points.{MeetsAll}
 use Rattle.relation_core.specs.declared.part_rows.PartRow.{PartRow}
 use Rattle.relation_core.proofs.Points.{meets_append, meets_front, meets_back}
-use Rattle.scop_core.specs.declared.schedules.Schedule.{Schedule}
+use Rattle.scop_data.specs.declared.schedules.Schedule.{Schedule}
 use Rattle.scop_core.specs.SolvedRows.{HasSizes, floor_shape, floor_part}
 use Rattle.scop_core.specs.Held.{IsFormed}
 use Rattle.scop_core.specs.Meaning.{affine_at, levels_at}
 use Rattle.scop_core.specs.ReadBack.{IsSolvedSchedule}
-use Rattle.scop_core.proofs.LevelOrder.{loops_are_common}
+use Rattle.scop_data.proofs.LevelOrder.{loops_are_common}
 use Rattle.dependence_systems.specs.declared.widths.Widths.{Widths}
 use Rattle.dependence_systems.specs.declared.widths.Topic.TheVariants.{Context, SourcePart, TargetPart, SourceFloors, TargetFloors}
 use Rattle.scop_core.specs.LevelOrder.{common_loops, OrdersAt, IsLevel}

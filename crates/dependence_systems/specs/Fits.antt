@@ -1,8 +1,8 @@
 -- When the rows of a system are as wide as its columns.
 use Rattle.std.specs.Prelude.{◌≡◌, ℕ, ◌+◌, List, length, All}
 use Rattle.relation_core.specs.Systems.{System}
-use Rattle.scop_core.specs.declared.affines.Affine.{Affine}
-use Rattle.scop_core.specs.declared.schedules.Schedule.{Schedule}
+use Rattle.scop_data.specs.declared.affines.Affine.{Affine}
+use Rattle.scop_data.specs.declared.schedules.Schedule.{Schedule}
 use Rattle.dependence_systems.specs.declared.widths.Widths.{Widths}
 use Rattle.scop_core.specs.SolvedRows.{HasSizes, HasRelation}
 use Rattle.scop_core.specs.Held.{IsFormed}

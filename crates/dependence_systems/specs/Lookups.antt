@@ -1,8 +1,8 @@
 -- What an entry of the list names in two SCoPs.
 use Rattle.std.specs.Prelude.{ℕ, ◌<◌, ◌^◌, List, length, IsSomeAnd, IsSome}
 use Rattle.relation_core.specs.Systems.{HasLimits}
-use Rattle.scop_core.specs.declared.schedules.Schedule.{Schedule}
-use Rattle.scop_core.specs.declared.statements.Statement.{Statement}
+use Rattle.scop_data.specs.declared.schedules.Schedule.{Schedule}
+use Rattle.scop_data.specs.declared.statements.Statement.{Statement}
 use Rattle.scop_core.specs.LevelOrder.{IsLevel}
 use Rattle.dependence_systems.specs.Sides.{member}
 use Rattle.dependence_systems.specs.Fits.{PairingFits}

@@ -1,7 +1,7 @@
 -- SCoPs whose statements are pieces of the statements of an older one.
 use Rattle.std.specs.Prelude.{◌≡◌, ◌↔◌, ℕ, ℤ, List, [], ◌∷◌, length, IsSomeAnd}
 use Rattle.std.specs.List.{range_with_len}
-use Rattle.scop_core.specs.declared.statements.Statement.{Statement}
+use Rattle.scop_data.specs.declared.statements.Statement.{Statement}
 use Rattle.scop_core.specs.ScopData.{ScopData}
 use Rattle.scop_core.specs.Order.{Before}
 use Rattle.scop_core.specs.Meaning.{InContext, Instance, IsInstance, stamp, Touch, Conflict}

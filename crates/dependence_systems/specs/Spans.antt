@@ -1,8 +1,8 @@
 -- Two statements whose accesses cannot meet, from the least and the greatest array of each and from whether it writes.
 use Rattle.std.specs.Prelude.{◌≡◌, ◌⊎◌, ◌≤ℤ◌, ◌<ℤ◌, false, List, [], ◌∷◌}
-use Rattle.scop_core.specs.declared.accesses.AccessKind.TheVariants.{Read}
-use Rattle.scop_core.specs.declared.accesses.Access.{Access}
-use Rattle.scop_core.specs.declared.statements.Statement.{Statement}
+use Rattle.scop_data.specs.declared.accesses.AccessKind.TheVariants.{Read}
+use Rattle.scop_data.specs.declared.accesses.Access.{Access}
+use Rattle.scop_data.specs.declared.statements.Statement.{Statement}
 use Rattle.dependence_systems.specs.declared.spans.Span.{Span}
 
 -- an access is to an array of the span, and only reads where the span does not write

@@ -6,8 +6,8 @@ use Rattle.std.proofs.lemmas.List.{length-map}
 use Rattle.row_core.specs.Dense.{dense_among, dense_of}
 use Rattle.beta_tree.specs.Edits.{same_vector}
 use Rattle.beta_tree.proofs.Orders.{and_left, and_right}
-use Rattle.scop_core.specs.declared.schedules.Schedule.{Schedule}
-use Rattle.scop_core.specs.declared.statements.Statement.{Statement}
+use Rattle.scop_data.specs.declared.schedules.Schedule.{Schedule}
+use Rattle.scop_data.specs.declared.statements.Statement.{Statement}
 use Rattle.scop_core.specs.ScopData.{ScopData, betas_in}
 use Rattle.scop_core.specs.Sequences.{In}
 use Rattle.scop_core.specs.Validity.{IsValid}

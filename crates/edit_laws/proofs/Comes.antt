@@ -3,8 +3,8 @@ use Rattle.std.proofs.Common.{◌≡◌, ℕ, Bool, true, false, if◌then◌els
 use Rattle.std.specs.List.{flat_map}
 use Rattle.beta_tree.specs.Edits.{same_vector, below, front, last, make_room, next_sibling}
 use Rattle.relation_core.specs.Points.{LiesInSome}
-use Rattle.scop_core.specs.declared.schedules.Schedule.{Schedule}
-use Rattle.scop_core.specs.declared.statements.Statement.{Statement}
+use Rattle.scop_data.specs.declared.schedules.Schedule.{Schedule}
+use Rattle.scop_data.specs.declared.statements.Statement.{Statement}
 use Rattle.scop_core.specs.Meaning.{floors_after}
 use Rattle.scop_core.specs.LevelOrder.{level_values}
 use Rattle.dependence_systems.specs.Sides.{member}

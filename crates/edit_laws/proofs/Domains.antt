@@ -9,7 +9,7 @@ use Rattle.relation_core.specs.Points.{LiesIn, LiesInSome, coordinates}
 use Rattle.relation_core.specs.declared.part_rows.RowKind.TheVariants.{AtLeast}
 use Rattle.relation_core.proofs.Points.{meets_append, meets_front, meets_back}
 use Rattle.scop_core.specs.SolvedRows.{zeros}
-use Rattle.scop_core.proofs.SolvedDots.{dot_append, dot_negative}
+use Rattle.schedule_forms.proofs.SolvedDots.{dot_append, dot_negative}
 use Rattle.clay_commands.specs.Drafts.{condition_row, parts_where}
 use Rattle.edit_laws.proofs.Rows.{dot_zeros}
 

@@ -1,17 +1,17 @@
 -- A script keeps the instances of a SCoP, and makes no two stamps one.
 use Rattle.std.proofs.Common.{◌≡◌, inl, inr, ℕ, zero, suc, ◌+◌, Some, List, [], ◌∷◌, length, map, ℤ, refl, ap, sym, subst, ◌∙◌, arith}
 use Rattle.std.specs.Prelude.{slice_get, IsSomeAnd}
-use Rattle.scop_core.specs.declared.accesses.Access.{Access}
-use Rattle.scop_core.specs.declared.statements.Body.{Body}
-use Rattle.scop_core.specs.declared.statements.Statement.{Statement}
+use Rattle.scop_data.specs.declared.accesses.Access.{Access}
+use Rattle.scop_data.specs.declared.statements.Body.{Body}
+use Rattle.scop_data.specs.declared.statements.Statement.{Statement}
 use Rattle.scop_core.specs.ScopData.{ScopData}
 use Rattle.scop_core.specs.Memory.{Event}
 use Rattle.scop_core.specs.Meaning.{Instance, InDomain, IsInstance, statement_at, interleaved, stamp_in, stamp, event_in, event, use_at}
 use Rattle.scop_core.specs.LevelOrder.{level_values}
 use Rattle.scop_core.specs.Theorems.{HasValidSchedules}
-use Rattle.scop_core.proofs.Stamps.{same_number, statements_ordered}
-use Rattle.scop_core.proofs.Orders.{before_irreflexive}
-use Rattle.scop_core.proofs.RunLaws.{no_ties}
+use Rattle.scop_data.proofs.Stamps.{same_number, statements_ordered}
+use Rattle.scop_data.proofs.Orders.{before_irreflexive}
+use Rattle.scop_data.proofs.RunLaws.{no_ties}
 use Rattle.scop_core.specs.Order.{Before}
 use Rattle.dependence_systems.specs.Sides.{member, member_or}
 use Rattle.dependence_systems.specs.Originals.{as_original}

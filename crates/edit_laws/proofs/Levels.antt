@@ -5,9 +5,9 @@ use Rattle.std.proofs.lemmas.Int.{ints}
 use Rattle.std.proofs.lemmas.List.{map-set, get_or-map, length-map, length-append, length-replicate, append-nil}
 use Rattle.std.proofs.lemmas.List.Edits.{swap_is}
 use Rattle.row_core.specs.Rows.{entry, dot, add_rows, scale}
-use Rattle.scop_core.specs.declared.affines.Affine.{Affine}
-use Rattle.scop_core.specs.declared.schedules.Floor.{Floor}
-use Rattle.scop_core.specs.declared.schedules.Schedule.{Schedule}
+use Rattle.scop_data.specs.declared.affines.Affine.{Affine}
+use Rattle.scop_data.specs.declared.schedules.Floor.{Floor}
+use Rattle.scop_data.specs.declared.schedules.Schedule.{Schedule}
 use Rattle.scop_core.specs.AffineSums.{plus_multiple, moved, negative, widened, last_floor}
 use Rattle.scop_core.specs.Meaning.{affine_at, floor_of, floors_after, levels_at}
 use Rattle.scop_core.specs.LevelOrder.{level_values}

@@ -4,7 +4,7 @@ use Rattle.std.specs.Prelude.{swap, insert}
 use Rattle.std.proofs.lemmas.List.{map-set, set-get_or, get_or-set_same, get_or-set_other, get_or-map, length-set}
 use Rattle.std.proofs.lemmas.List.Edits.{swap_is}
 use Rattle.row_core.specs.Rows.{entry}
-use Rattle.scop_core.proofs.Stamps.{same_number}
+use Rattle.scop_data.proofs.Stamps.{same_number}
 
 rest_of : List ℤ → List ℤ
 rest_of [] = []

@@ -8,7 +8,7 @@ use Rattle.beta_tree.specs.Vectors.{after}
 use Rattle.beta_tree.specs.Edits.{same_vector, below, front, last, make_room, next_sibling}
 use Rattle.beta_tree.proofs.Places.{after_append}
 use Rattle.beta_tree.proofs.Leaves.{same_vector_yes}
-use Rattle.scop_core.specs.declared.statements.Statement.{Statement}
+use Rattle.scop_data.specs.declared.statements.Statement.{Statement}
 use Rattle.scop_core.specs.Meaning.{InDomain}
 use Rattle.clay_script.specs.declared.commands.Command.{Command}
 use Rattle.clay_script.specs.declared.commands.Command.TheVariants.{Fission, Fuse, Reorder, Interchange, Skew, Shift, Reverse, Stripmine, Tile, Iss}

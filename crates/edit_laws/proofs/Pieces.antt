@@ -6,7 +6,7 @@ use Rattle.std.proofs.lemmas.Bool.Decides.{Decides-int_eq, not_from_Decides}
 use Rattle.std.proofs.lemmas.Int.{ints}
 use Rattle.beta_tree.specs.Vectors.{is_leaf}
 use Rattle.beta_tree.proofs.Orders.{and_left, and_right}
-use Rattle.scop_core.specs.declared.statements.Statement.{Statement}
+use Rattle.scop_data.specs.declared.statements.Statement.{Statement}
 use Rattle.clay_script.specs.declared.commands.Command.{Command}
 use Rattle.clay_script.specs.declared.commands.Command.TheVariants.{Fission, Fuse, Reorder, Interchange, Skew, Shift, Reverse, Stripmine, Tile, Iss}
 use Rattle.clay_commands.specs.Arguments.{place}

@@ -4,12 +4,12 @@ use Rattle.std.proofs.lemmas.Int.{ints}
 use Rattle.std.proofs.lemmas.List.{length-append, length-replicate}
 use Rattle.row_core.specs.Rows.{dot, add_rows, scale}
 use Rattle.row_core.specs.Linear.{dot_add, dot_scale, mul_add_z}
-use Rattle.scop_core.specs.declared.affines.Affine.{Affine}
-use Rattle.scop_core.specs.declared.schedules.Floor.{Floor}
+use Rattle.scop_data.specs.declared.affines.Affine.{Affine}
+use Rattle.scop_data.specs.declared.schedules.Floor.{Floor}
 use Rattle.scop_core.specs.AffineSums.{plus_multiple, moved, negative, widened, last_floor}
 use Rattle.scop_core.specs.Meaning.{affine_at, floor_of, floors_after}
 use Rattle.scop_core.specs.SolvedRows.{zeros}
-use Rattle.scop_core.proofs.SolvedDots.{dot_append, dot_negative}
+use Rattle.schedule_forms.proofs.SolvedDots.{dot_append, dot_negative}
 use Rattle.clay_commands.specs.Drafts.{widened_floor}
 
 -- a 0 at the end changes no value

@@ -7,11 +7,11 @@ use Rattle.row_core.specs.Dense.{dense_among}
 use Rattle.beta_tree.specs.Vectors.{IsTree}
 use Rattle.beta_tree.proofs.Dense.{dense_tree}
 use Rattle.beta_tree.proofs.Orders.{and_left, and_right}
-use Rattle.scop_core.specs.declared.statements.Statement.{Statement}
+use Rattle.scop_data.specs.declared.statements.Statement.{Statement}
 use Rattle.scop_core.specs.ScopData.{ScopData, betas_in}
 use Rattle.scop_core.specs.Validity.{IsValid}
 use Rattle.scop_core.specs.Theorems.{IsStatement, HasValidSchedules}
-use Rattle.scop_core.proofs.MappedRuns.{mapped_run_exists}
+use Rattle.scop_data.proofs.MappedRuns.{mapped_run_exists}
 use Rattle.dependence_systems.specs.Originals.{as_original}
 use Rattle.clay_script.specs.declared.commands.Command.{Command}
 use Rattle.clay_commands.specs.Drafts.{Draft, betas_of, drafted, draft_after, drafts_after}

@@ -8,8 +8,8 @@ use Rattle.suite_base.specs.declared.refusals.Refusal.TheVariants as refusal
 use Rattle.beta_tree.specs.Vectors.{no_statement, dense_of}
 use Rattle.row_core.specs.Dense.{dense_among}
 use Rattle.beta_tree.proofs.Orders.{and_left, and_right}
-use Rattle.scop_core.specs.declared.affines.Affine.{Affine}
-use Rattle.scop_core.specs.declared.statements.Statement.{Statement}
+use Rattle.scop_data.specs.declared.affines.Affine.{Affine}
+use Rattle.scop_data.specs.declared.statements.Statement.{Statement}
 use Rattle.scop_core.specs.ScopData.{ScopData, betas_in}
 use Rattle.scop_core.specs.SolvedRows.{HasSizes}
 use Rattle.scop_core.specs.Shapes.{IsShapedStatement}

@@ -17,8 +17,8 @@ use Rattle.beta_tree.proofs.Orders.{and_left, and_right}
 use Rattle.beta_tree.proofs.Places.{after_append}
 use Rattle.beta_tree.proofs.Undone.{answers_are_trees}
 use Rattle.scop_core.specs.AffineSums.{widened}
-use Rattle.scop_core.specs.declared.schedules.Schedule.{Schedule}
-use Rattle.scop_core.specs.declared.statements.Statement.{Statement}
+use Rattle.scop_data.specs.declared.schedules.Schedule.{Schedule}
+use Rattle.scop_data.specs.declared.statements.Statement.{Statement}
 use Rattle.clay_script.specs.declared.commands.Command.{Command}
 use Rattle.clay_script.specs.declared.commands.Command.TheVariants.{Fission, Fuse, Reorder, Interchange, Skew, Shift, Reverse, Stripmine, Tile, Iss}
 use Rattle.clay_script.specs.Commands.{prefix_of}

@@ -1,7 +1,7 @@
 -- What a script keeps of a SCoP: its instances, under the numbers of their originals.
 use Rattle.std.specs.Prelude.{◌≡◌, ◌<◌, ◌+◌, ◌^◌, ℕ, ℤ, None, List, [], ◌∷◌, ◌++◌, length, IsSomeAnd}
-use Rattle.scop_core.specs.declared.schedules.Schedule.{Schedule}
-use Rattle.scop_core.specs.declared.statements.Statement.{Statement}
+use Rattle.scop_data.specs.declared.schedules.Schedule.{Schedule}
+use Rattle.scop_data.specs.declared.statements.Statement.{Statement}
 use Rattle.scop_core.specs.ScopData.{ScopData}
 use Rattle.scop_core.specs.Meaning.{Instance, floors_after, Run}
 use Rattle.scop_core.specs.Validity.{IsValid}

@@ -1,6 +1,6 @@
 -- Where a script brings the instances of a SCoP, and the values of its levels at any point.
 use Rattle.std.specs.Prelude.{◌≡◌, ◌↔◌, ◌<◌, ◌+◌, ◌^◌, ℕ, ℤ, List, [], ◌∷◌, length}
-use Rattle.scop_core.specs.declared.statements.Statement.{Statement}
+use Rattle.scop_data.specs.declared.statements.Statement.{Statement}
 use Rattle.scop_core.specs.ScopData.{ScopData}
 use Rattle.scop_core.specs.Meaning.{Instance, IsInstance, Run, stamp, stamp_in, statement_at}
 use Rattle.scop_core.specs.Sequences.{In}

@@ -13,7 +13,7 @@ use Rattle.legality.specs.declared.legal.Legal.{Legal}
 use Rattle.legality.specs.declared.legal.Legal.TheVariants.{Yes, Illegal}
 use Rattle.scop_core.specs.Sequences.{In}
 use Rattle.scop_core.specs.LevelOrder.{IsLevel}
-use Rattle.scop_core.proofs.LevelOrder.{levels_are_listed}
+use Rattle.scop_data.proofs.LevelOrder.{levels_are_listed}
 use Rattle.dependence_systems.specs.declared.dependences.Dep.{Dep}
 use Rattle.legality.specs.Violations.{Edit, Violation, dependences, new_schedule, new_levels, violations_of, violations, shared_pairing, violation_peak}
 use Rattle.legality.specs.Answers.{IsLight, IsReal, IsNone, AreNone, StopsAt, StopsHere, IsEnd, IsSaid, IsAnswer}

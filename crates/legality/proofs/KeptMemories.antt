@@ -7,7 +7,7 @@ use Rattle.scop_core.specs.Memory.{initial}
 use Rattle.scop_core.specs.Meaning.{InContext, Instance}
 use Rattle.scop_core.specs.Theorems.{HasValidSchedules}
 use Rattle.scop_core.specs.MappedRuns.{IsReversed, MapsInstances}
-use Rattle.scop_core.proofs.MappedRuns.{mapped_run_exists, nothing_reversed_keeps_memory}
+use Rattle.scop_data.proofs.MappedRuns.{mapped_run_exists, nothing_reversed_keeps_memory}
 use Rattle.scop_core.proofs.ClashFree.{valid_schedules}
 use Rattle.dependence_systems.specs.Originals.{as_original}
 use Rattle.suite_base.specs.declared.refusals.Fail.{Fail}

@@ -1,7 +1,7 @@
 -- The statements of an edited SCoP under the order of their originals.
 use Rattle.std.proofs.Common.{◌≡◌, ℕ, zero, suc, List, [], ◌∷◌, length, slice_get, All, Option, Some, None, IsSomeAnd, refl, ap, sym, subst}
 use Rattle.std.proofs.lemmas.List.Elements.{All-head, All-tail, All-cons, All-nil}
-use Rattle.scop_core.specs.declared.statements.Statement.{Statement}
+use Rattle.scop_data.specs.declared.statements.Statement.{Statement}
 use Rattle.scop_core.specs.ReadBack.{IsSolvedSchedule}
 use Rattle.scop_core.specs.Shapes.{IsShapedStatement, IsFormedStatement}
 use Rattle.dependence_systems.specs.Sides.{Side, member, schedule_in, under}

@@ -4,13 +4,13 @@ use Rattle.std.proofs.lemmas.Int.{ints}
 use Rattle.std.proofs.lemmas.List.{length-append, length-map}
 use Rattle.std.proofs.lemmas.List.Elements.{All-head, All-tail, All-cons, All-nil}
 use Rattle.row_core.specs.Rows.{dot}
-use Rattle.scop_core.specs.declared.affines.Affine.{Affine}
-use Rattle.scop_core.specs.declared.schedules.Schedule.{Schedule}
+use Rattle.scop_data.specs.declared.affines.Affine.{Affine}
+use Rattle.scop_data.specs.declared.schedules.Schedule.{Schedule}
 use Rattle.scop_core.specs.SolvedRows.{zeros, HasSizes, HasRelation}
 use Rattle.scop_core.specs.ReadBack.{IsSolvedSchedule}
 use Rattle.scop_core.specs.Meaning.{affine_at, floors_after, levels_at, interleaved, stamp_of}
 use Rattle.scop_core.specs.LevelOrder.{level_values}
-use Rattle.scop_core.proofs.SolvedDots.{dot_append}
+use Rattle.schedule_forms.proofs.SolvedDots.{dot_append}
 use Rattle.dependence_systems.proofs.Segments.{dot_zeros, length_zeros}
 use Rattle.dependence_systems.proofs.SystemMeanings.{length_floors}
 use Rattle.legality.specs.Mixed.{padded, mixed}

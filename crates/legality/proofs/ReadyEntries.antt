@@ -1,9 +1,9 @@
 -- The system of a dependence over the floors of the new schedules can be built.
 use Rattle.std.proofs.Common.{◌≡◌, ℕ, ◌≤◌, List, length, All, Some, ap, sym, ◌∙◌, subst, arith}
 use Rattle.relation_core.specs.Systems.{System, HasLimits}
-use Rattle.scop_core.specs.declared.accesses.Access.{Access}
-use Rattle.scop_core.specs.declared.schedules.Schedule.{Schedule}
-use Rattle.scop_core.specs.declared.statements.Statement.{Statement}
+use Rattle.scop_data.specs.declared.accesses.Access.{Access}
+use Rattle.scop_data.specs.declared.schedules.Schedule.{Schedule}
+use Rattle.scop_data.specs.declared.statements.Statement.{Statement}
 use Rattle.scop_core.specs.Sequences.{In}
 use Rattle.scop_core.specs.LevelOrder.{IsLevel}
 use Rattle.scop_core.specs.KeptLimits.{StatementKeepsLimits, KeepsLimits}

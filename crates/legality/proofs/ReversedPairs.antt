@@ -2,9 +2,9 @@
 use Rattle.std.proofs.Common.{◌≡◌, ℕ, List, true, length, All, Option, Some, None, IsSomeAnd, ℤ, refl, ap, sym, ◌∙◌, subst}
 use Rattle.relation_core.specs.Systems.{System}
 use Rattle.relation_core.specs.Points.{LiesIn}
-use Rattle.scop_core.specs.declared.accesses.Access.{Access}
-use Rattle.scop_core.specs.declared.schedules.Schedule.{Schedule}
-use Rattle.scop_core.specs.declared.statements.Statement.{Statement}
+use Rattle.scop_data.specs.declared.accesses.Access.{Access}
+use Rattle.scop_data.specs.declared.schedules.Schedule.{Schedule}
+use Rattle.scop_data.specs.declared.statements.Statement.{Statement}
 use Rattle.scop_core.specs.Order.{Before}
 use Rattle.scop_core.specs.Sequences.{In}
 use Rattle.scop_core.specs.Meaning.{Instance, InDomain, IsInstance, statement_at, stamp, stamp_of, stamp_in}
@@ -12,7 +12,7 @@ use Rattle.scop_core.specs.LevelOrder.{common_loops, IsLevel, OrdersAt, level_va
 use Rattle.scop_core.specs.Printable.{IsDomainPart}
 use Rattle.scop_core.specs.ReadBack.{IsSolvedSchedule}
 use Rattle.scop_core.specs.Shapes.{IsShapedStatement}
-use Rattle.scop_core.proofs.LevelOrder.{schedules_order_at_a_level, levels_are_listed}
+use Rattle.scop_data.proofs.LevelOrder.{schedules_order_at_a_level, levels_are_listed}
 use Rattle.scop_core.proofs.ScopShapes.{scops_are_formed, scops_are_shaped}
 use Rattle.dependence_systems.specs.declared.dependences.Dep.{Dep}
 use Rattle.dependence_systems.specs.Sides.{Side, member, schedule_in, under, sides}

@@ -7,12 +7,12 @@ use Rattle.row_core.specs.Rows.{dot}
 use Rattle.relation_core.specs.Points.{Meets, MeetsAll}
 use Rattle.relation_core.specs.declared.part_rows.RowKind.TheVariants.{AtLeast}
 use Rattle.relation_core.proofs.Points.{meets_append}
-use Rattle.scop_core.specs.declared.affines.Affine.{Affine}
-use Rattle.scop_core.specs.declared.schedules.Schedule.{Schedule}
+use Rattle.scop_data.specs.declared.affines.Affine.{Affine}
+use Rattle.scop_data.specs.declared.schedules.Schedule.{Schedule}
 use Rattle.scop_core.specs.SolvedRows.{HasSizes}
 use Rattle.scop_core.specs.Meaning.{affine_at, levels_at}
 use Rattle.scop_core.specs.LevelOrder.{common_loops, EqualUpTo, LessAfter, IsLevel, OrdersAt}
-use Rattle.scop_core.proofs.LevelOrder.{loops_are_common}
+use Rattle.scop_data.proofs.LevelOrder.{loops_are_common}
 use Rattle.dependence_systems.specs.declared.widths.Widths.{Widths}
 use Rattle.dependence_systems.specs.Fits.{SchedulesFit}
 use Rattle.dependence_systems.specs.Systems.{in_columns, equal_rows, greater_row, greater_rows, rows_between}

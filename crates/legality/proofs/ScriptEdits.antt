@@ -1,7 +1,7 @@
 -- A script of which no condition fails makes an edit, and one that keeps the instances.
 use Rattle.std.proofs.Common.{ℕ, List, [], ◌∷◌, length, ap, sym}
 use Rattle.std.specs.Prelude.{Option, Some, None, IsSomeAnd}
-use Rattle.scop_core.specs.declared.statements.Statement.{Statement}
+use Rattle.scop_data.specs.declared.statements.Statement.{Statement}
 use Rattle.scop_core.specs.ScopData.{ScopData}
 use Rattle.scop_core.specs.Validity.{IsValid}
 use Rattle.scop_core.proofs.ClashFree.{valid_schedules}

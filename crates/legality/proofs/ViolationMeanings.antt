@@ -4,8 +4,8 @@ use Rattle.std.proofs.lemmas.List.{length-append}
 use Rattle.relation_core.specs.Systems.{System}
 use Rattle.relation_core.specs.Points.{MeetsAll, LiesIn}
 use Rattle.relation_core.proofs.Points.{meets_append}
-use Rattle.scop_core.specs.declared.accesses.Access.{Access}
-use Rattle.scop_core.specs.declared.schedules.Schedule.{Schedule}
+use Rattle.scop_data.specs.declared.accesses.Access.{Access}
+use Rattle.scop_data.specs.declared.schedules.Schedule.{Schedule}
 use Rattle.scop_core.specs.Meaning.{floors_after}
 use Rattle.scop_core.specs.LevelOrder.{common_loops, IsLevel, OrdersAt, level_values}
 use Rattle.dependence_systems.specs.Fits.{PairingFits, SchedulesFit}

@@ -1,7 +1,7 @@
 -- The rows of a violation behind those that it shares.
 use Rattle.std.proofs.Common.{◌≡◌, ℕ, List, ◌++◌, Some, Result, Ok, Err, OnOk, ap, sym, ◌∙◌, subst}
 use Rattle.relation_core.specs.Systems.{System}
-use Rattle.scop_core.specs.declared.statements.Statement.{Statement}
+use Rattle.scop_data.specs.declared.statements.Statement.{Statement}
 use Rattle.scop_core.specs.Sequences.{In}
 use Rattle.dependence_systems.specs.declared.dependences.Dep.{Dep}
 use Rattle.dependence_systems.specs.declared.widths.Widths.{Widths}

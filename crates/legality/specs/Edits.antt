@@ -1,7 +1,7 @@
 -- What an edit keeps of the statements of a SCoP: each new statement is a piece of an old one.
 use Rattle.std.specs.Prelude.{◌≡◌, ℕ, ℤ, List, [], ◌∷◌, ◌++◌, length, IsSomeAnd}
-use Rattle.scop_core.specs.declared.schedules.Schedule.{Schedule}
-use Rattle.scop_core.specs.declared.statements.Statement.{Statement}
+use Rattle.scop_data.specs.declared.schedules.Schedule.{Schedule}
+use Rattle.scop_data.specs.declared.statements.Statement.{Statement}
 use Rattle.scop_core.specs.Meaning.{Instance, floors_after}
 use Rattle.scop_core.specs.Validity.{IsValid}
 use Rattle.scop_core.specs.MappedRuns.{MapsInstances, IsReversed}

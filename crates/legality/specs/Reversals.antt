@@ -1,7 +1,7 @@
 -- The rows that say that a new schedule puts the target of a dependence before its source.
 use Rattle.std.specs.Prelude.{ℕ, zero, suc, List, ◌++◌, max}
 use Rattle.relation_core.specs.declared.part_rows.PartRow.{PartRow}
-use Rattle.scop_core.specs.declared.schedules.Schedule.{Schedule}
+use Rattle.scop_data.specs.declared.schedules.Schedule.{Schedule}
 use Rattle.scop_core.specs.LevelOrder.{common_loops}
 use Rattle.dependence_systems.specs.declared.widths.Widths.{Widths}
 use Rattle.dependence_systems.specs.Systems.{equal_rows, equal_weight, greater_rows, greater_weight}

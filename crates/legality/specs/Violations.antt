@@ -3,7 +3,7 @@ use Rattle.std.specs.Prelude.{ℕ, List, map, max, ◌++◌}
 use Rattle.std.specs.List.{flat_map}
 use Rattle.relation_core.specs.Systems.{System}
 use Rattle.elim_core.specs.Peaks.{Peak, peak}
-use Rattle.scop_core.specs.declared.schedules.Schedule.{Schedule}
+use Rattle.scop_data.specs.declared.schedules.Schedule.{Schedule}
 use Rattle.scop_core.specs.ScopData.{ScopData}
 use Rattle.scop_core.specs.LevelOrder.{levels_between}
 use Rattle.clay_commands.specs.declared.edited.Edited.{Edited}

@@ -6,7 +6,7 @@ use Rattle.std.proofs.lemmas.Bool.Decides.{Decides-int_eq}
 use Rattle.std.proofs.lemmas.Option.{slice_get_within, get_or_from_slice_get}
 use Rattle.indexmap.specs.IndexMap.{insert_entry}
 use Rattle.scop_core.specs.Printable.{are_arrays, has_no_array, is_name}
-use Rattle.scop_core.proofs.SolvedShapes.{both}
+use Rattle.schedule_forms.proofs.SolvedShapes.{both}
 use Rattle.scop_core.proofs.Assemblies.{item_drop}
 use Rattle.scop_core.proofs.Validities.{both_hold}
 

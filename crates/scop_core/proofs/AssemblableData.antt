@@ -6,23 +6,24 @@ use Rattle.std.proofs.lemmas.List.{length-append, length-map}
 use Rattle.std.proofs.lemmas.List.Elements.{All-nil, All-head, All-tail, All-cons, All-map}
 use Rattle.std.proofs.lemmas.Option.{slice_get_within}
 use Rattle.relation_core.specs.Systems.{System}
-use Rattle.scop_core.specs.declared.accesses.Access.{Access}
+use Rattle.scop_data.specs.declared.accesses.Access.{Access}
 use Rattle.scop_core.specs.declared.limits.PartCount.{PartCount}
 use Rattle.scop_core.specs.declared.limits.PartCount.TheVariants.{OutputCount, LocalCount, RowCount}
-use Rattle.scop_core.specs.declared.schedules.Schedule.{Schedule}
-use Rattle.scop_core.specs.declared.statements.Statement.{Statement}
-use Rattle.scop_core.specs.ScopData.{ScopData, arrays_of}
-use Rattle.scop_core.specs.SolvedRows.{schedule_part}
-use Rattle.scop_core.specs.Order.{IsPrefix}
+use Rattle.scop_data.specs.declared.schedules.Schedule.{Schedule}
+use Rattle.scop_data.specs.declared.statements.Statement.{Statement}
+use Rattle.scop_data.specs.ScopData.{ScopData, arrays_of}
+use Rattle.scop_data.specs.SolvedRows.{schedule_part}
+use Rattle.scop_data.specs.Order.{IsPrefix}
 use Rattle.scop_core.specs.Assembly.{count_of, array_count, some_above, the_part, statement_limit, first_limit, whole_limit, is_solved, first_unsolved, iterators_of, solved_statement, solved_statements, vectors_clash, clash_among, first_clash, HasInputs, HasShapes}
 use Rattle.scop_core.specs.Printable.{has_part, IsDomainPart, IsPrintableStatement}
 use Rattle.scop_core.specs.KeptLimits.{StatementKeepsLimits, KeepsLimits}
-use Rattle.scop_core.specs.ReadBack.{access_piece, statement_pieces, pieces_of, ReadBack}
+use Rattle.scop_data.specs.Pieces.{access_piece, statement_pieces, pieces_of}
+use Rattle.scop_core.specs.ReadBack.{ReadBack}
 use Rattle.scop_core.specs.Shapes.{IsShapedStatement}
 use Rattle.scop_core.specs.Assemblable.{StatementHasTexts, AreApart, AssemblableDataReadsBack, ValidScopsAreAssemblable}
-use Rattle.scop_core.proofs.SolvedShapes.{both}
-use Rattle.scop_core.proofs.ReadBackLists.{false_if, and_true}
-use Rattle.scop_core.proofs.ReadBackSolved.{schedule_reads_back}
+use Rattle.schedule_forms.proofs.SolvedShapes.{both}
+use Rattle.schedule_forms.proofs.ReadBackLists.{false_if, and_true}
+use Rattle.schedule_forms.proofs.ReadBackSolved.{schedule_reads_back}
 use Rattle.scop_core.proofs.ReadBackPieces.{none_or, none_if, none_unless, or_false, not_above, schedule_length, Small, pieces_outputs, pieces_locals, pieces_rows, pieces_parts, pieces_solved, pieces_same, none_passed}
 use Rattle.scop_core.proofs.ReadBackPieces.{pieces_read_back}
 use Rattle.scop_core.proofs.ClashFree.{get_before, valid_schedules}

@@ -5,15 +5,15 @@ use Rattle.std.specs.Prelude.{All, Option}
 use Rattle.std.proofs.lemmas.List.Elements.{All-push, All-head, All-weaker}
 use Rattle.relation_core.specs.Systems.{System}
 use Rattle.suite_base.specs.declared.refusals.Refusal.TheVariants.{NotSolved}
-use Rattle.scop_core.specs.declared.accesses.Access.{Access}
-use Rattle.scop_core.specs.declared.accesses.AccessKind.{AccessKind}
-use Rattle.scop_core.specs.declared.schedules.Schedule.{Schedule}
-use Rattle.scop_core.specs.declared.statements.Statement.{Statement}
-use Rattle.scop_core.specs.declared.raw_pieces.RawStatement.{RawStatement}
-use Rattle.scop_core.specs.SolvedRows.{HasRelation, HasAccessRelation}
-use Rattle.scop_core.specs.SolvedForm.{is_access, is_scattering, access_of}
+use Rattle.scop_data.specs.declared.accesses.Access.{Access}
+use Rattle.scop_data.specs.declared.accesses.AccessKind.{AccessKind}
+use Rattle.scop_data.specs.declared.schedules.Schedule.{Schedule}
+use Rattle.scop_data.specs.declared.statements.Statement.{Statement}
+use Rattle.scop_data.specs.declared.raw_pieces.RawStatement.{RawStatement}
+use Rattle.scop_data.specs.SolvedRows.{HasRelation, HasAccessRelation}
+use Rattle.schedule_forms.specs.SolvedForm.{is_access, is_scattering, access_of}
 use Rattle.scop_core.specs.Assembly.{default_names, is_one, the_part, HasInputs, HasShapes, HasNames, iterators_of, are_solved, is_solved, first_unsolved, solved_accesses, solved_statement, solved_statements, or_else}
-use Rattle.scop_core.proofs.SolvedShapes.{both}
+use Rattle.schedule_forms.proofs.SolvedShapes.{both}
 
 less_suc : (n k : ℕ) → k < n → n - k ≡ suc (n - (k + 1))
 less_suc n k h = omega arith

@@ -7,19 +7,19 @@ use Rattle.row_core.specs.Rows.{entry}
 use Rattle.relation_core.specs.Systems.{System}
 use Rattle.relation_core.specs.Points.{MeetsAll, coordinates}
 use Rattle.relation_core.specs.declared.part_rows.RowKind.TheVariants.{AtLeast}
-use Rattle.scop_core.specs.declared.affines.Affine.{Affine}
-use Rattle.scop_core.specs.declared.accesses.AccessKind.TheVariants.{Read, Write, MayWrite}
-use Rattle.scop_core.specs.declared.accesses.Access.{Access}
-use Rattle.scop_core.specs.declared.schedules.Floor.{Floor}
-use Rattle.scop_core.specs.declared.statements.Statement.{Statement}
-use Rattle.scop_core.specs.SolvedRows.{HasSizes, PairFits}
+use Rattle.scop_data.specs.declared.affines.Affine.{Affine}
+use Rattle.scop_data.specs.declared.accesses.AccessKind.TheVariants.{Read, Write, MayWrite}
+use Rattle.scop_data.specs.declared.accesses.Access.{Access}
+use Rattle.scop_data.specs.declared.schedules.Floor.{Floor}
+use Rattle.scop_data.specs.declared.statements.Statement.{Statement}
+use Rattle.scop_data.specs.SolvedRows.{HasSizes, PairFits}
 use Rattle.scop_core.specs.Printable.{IsDomainPart}
-use Rattle.scop_core.specs.ReadBack.{UsesEarlier, IsSolvedSchedule, IsSolvedAccess}
+use Rattle.scop_data.specs.SolvedData.{UsesEarlier, IsSolvedSchedule, IsSolvedAccess}
 use Rattle.scop_core.specs.Shapes.{IsShapedStatement, IsShapedScop}
-use Rattle.scop_core.specs.ScopData.{ScopData}
-use Rattle.scop_core.specs.Sequences.{In}
-use Rattle.scop_core.specs.Memory.{Cell, Term, Initial, App, NoTerms, More, initial, Use, Event, step_of}
-use Rattle.scop_core.specs.Meaning.{InContext, Instance, IsInstance, floor_of, interleaved, stamp, Touch, Run, final}
+use Rattle.scop_data.specs.ScopData.{ScopData}
+use Rattle.scop_data.specs.Sequences.{In}
+use Rattle.scop_data.specs.Memory.{Cell, Term, Initial, App, NoTerms, More, initial, Use, Event, step_of}
+use Rattle.scop_data.specs.Meaning.{InContext, Instance, IsInstance, floor_of, interleaved, stamp, Touch, Run, final}
 
 -- floors of negative quotients
 floor_of_minus_five : floor_of (negsuc 4) (pos 4) ≡ negsuc 1

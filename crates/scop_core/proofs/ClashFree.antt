@@ -5,12 +5,13 @@ use Rattle.std.proofs.lemmas.Bool.Decides.{Decides-int_eq}
 use Rattle.std.proofs.lemmas.List.{length-append}
 use Rattle.std.proofs.lemmas.Option.{slice_get_within, get_or_from_slice_get}
 use Rattle.suite_base.specs.declared.refusals.Refusal.TheVariants.{BetaClash}
-use Rattle.scop_core.specs.declared.statements.Statement.{Statement}
-use Rattle.scop_core.specs.Order.{IsPrefix}
-use Rattle.scop_core.specs.Theorems.{HasValidSchedules, IsStatement}
-use Rattle.scop_core.specs.ScopData.{ScopData}
+use Rattle.scop_data.specs.declared.statements.Statement.{Statement}
+use Rattle.scop_data.specs.Order.{IsPrefix}
+use Rattle.scop_data.specs.Theorems.{HasValidSchedules, IsStatement}
+use Rattle.scop_data.specs.ScopData.{ScopData}
 use Rattle.scop_core.specs.Assembly.{vectors_clash, clash_among, first_clash, early_refusal_of, or_else, solved_statements}
-use Rattle.scop_core.specs.Validity.{HasRelations, IsValid}
+use Rattle.scop_data.specs.SolvedData.{HasRelations}
+use Rattle.scop_core.specs.Validity.{IsValid}
 use Rattle.scop_core.proofs.Assemblies.{item_has}
 use Rattle.scop_core.proofs.Validities.{both_hold}
 

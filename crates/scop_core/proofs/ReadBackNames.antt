@@ -9,11 +9,11 @@ use Rattle.suite_base.specs.Lines.{is_blank}
 use Rattle.suite_base.specs.Words.{begins_word, unbroken, spaced}
 use Rattle.suite_base.specs.Numbers.{is_digit, all_digits, are_digits}
 use Rattle.suite_base.proofs.NumberLaws.{decimal_digits}
-use Rattle.scop_core.specs.declared.statements.Body.{Body}
+use Rattle.scop_data.specs.declared.statements.Body.{Body}
 use Rattle.scop_core.specs.Printable.{has_no, is_name, are_names, end_line, body_name, is_body_line, is_body}
 use Rattle.scop_core.specs.Assembly.{default_names}
-use Rattle.scop_core.proofs.SolvedShapes.{both}
-use Rattle.scop_core.proofs.ReadBackLists.{and_true, other_number}
+use Rattle.schedule_forms.proofs.SolvedShapes.{both}
+use Rattle.schedule_forms.proofs.ReadBackLists.{and_true, other_number}
 
 -- the default body of statement number k with n iterators
 abbrev pub default_body : ℕ → ℕ → Body

@@ -6,30 +6,33 @@ use Rattle.std.proofs.lemmas.List.Elements.{All-nil, All-head, All-tail, All-con
 use Rattle.std.proofs.lemmas.Bool.Decides.{Decides-ltb}
 use Rattle.relation_core.specs.Systems.{System}
 use Rattle.relation_core.specs.declared.shapes.Shape.{Shape}
-use Rattle.scop_core.specs.declared.affines.Affine.{Affine}
-use Rattle.scop_core.specs.declared.schedules.Floor.{Floor}
-use Rattle.scop_core.specs.declared.schedules.Schedule.{Schedule}
-use Rattle.scop_core.specs.declared.accesses.AccessKind.{AccessKind}
-use Rattle.scop_core.specs.declared.accesses.Access.{Access}
+use Rattle.scop_data.specs.declared.affines.Affine.{Affine}
+use Rattle.scop_data.specs.declared.schedules.Floor.{Floor}
+use Rattle.scop_data.specs.declared.schedules.Schedule.{Schedule}
+use Rattle.scop_data.specs.declared.accesses.AccessKind.{AccessKind}
+use Rattle.scop_data.specs.declared.accesses.Access.{Access}
 use Rattle.scop_core.specs.declared.limits.PartCount.{PartCount}
 use Rattle.scop_core.specs.declared.limits.PartCount.TheVariants.{OutputCount, LocalCount, RowCount}
-use Rattle.scop_core.specs.declared.statements.Body.{Body}
-use Rattle.scop_core.specs.declared.statements.Statement.{Statement}
-use Rattle.scop_core.specs.declared.raw_pieces.RawStatement.{RawStatement}
-use Rattle.scop_core.specs.declared.raw_pieces.ScopPieces.{ScopPieces}
-use Rattle.scop_core.specs.ScopData.{ScopData}
-use Rattle.scop_core.specs.SolvedRows.{dimension_rows, value_rows, floor_rows, schedule_shape, schedule_part, access_shape, access_part, HasAccessRelation}
-use Rattle.scop_core.specs.SolvedForm.{is_scattering, is_access, schedule_of, access_of}
+use Rattle.scop_data.specs.declared.statements.Body.{Body}
+use Rattle.scop_data.specs.declared.statements.Statement.{Statement}
+use Rattle.scop_data.specs.declared.raw_pieces.RawStatement.{RawStatement}
+use Rattle.scop_data.specs.declared.raw_pieces.ScopPieces.{ScopPieces}
+use Rattle.scop_data.specs.ScopData.{ScopData}
+use Rattle.scop_data.specs.SolvedRows.{dimension_rows, value_rows, floor_rows, schedule_shape, schedule_part, access_shape, access_part, HasAccessRelation}
+use Rattle.schedule_forms.specs.SolvedForm.{is_scattering, is_access, schedule_of, access_of}
 use Rattle.scop_core.specs.Assembly.{or_else, count_of, some_above, accesses_above, statement_above, accesses_many, has_many_parts, whole_limit, statement_limit, first_limit, is_one, the_part, are_solved, is_solved, first_unsolved, iterators_of, body_from, solved_accesses, solved_statement, solved_statements, first_clash, refusal_of, scop_of, HasInputs, HasShapes}
 use Rattle.scop_core.specs.Printable.{is_body, has_part, IsPrintableStatement, IsPrintable}
-use Rattle.scop_core.specs.Validity.{HasRelations, IsValid}
-use Rattle.scop_core.specs.ReadBack.{IsSolvedAccess, IsSolvedStatement, access_piece, statement_pieces, pieces_of, ReadBack}
-use Rattle.scop_core.specs.SolvedLaws.{StatementsAreSolved, PiecesReadBack}
-use Rattle.scop_core.proofs.SolvedShapes.{both}
-use Rattle.scop_core.proofs.SolvedPieces.{length_floors, length_levels, length_betas, length_values, solved_of_relation, access_of_relation}
-use Rattle.scop_core.proofs.ReadBackLists.{false_if, and_true, apart}
+use Rattle.scop_data.specs.SolvedData.{HasRelations}
+use Rattle.scop_core.specs.Validity.{IsValid}
+use Rattle.scop_data.specs.SolvedData.{IsSolvedAccess, IsSolvedStatement}
+use Rattle.scop_data.specs.Pieces.{access_piece, statement_pieces, pieces_of}
+use Rattle.scop_core.specs.ReadBack.{ReadBack}
+use Rattle.scop_core.specs.ReadBack.{StatementsAreSolved, PiecesReadBack}
+use Rattle.schedule_forms.proofs.SolvedShapes.{both}
+use Rattle.schedule_forms.proofs.SolvedPieces.{length_floors, length_levels, length_betas, length_values, solved_of_relation, access_of_relation}
+use Rattle.schedule_forms.proofs.ReadBackLists.{false_if, and_true, apart}
 use Rattle.scop_core.proofs.ReadBackNames.{default_is_body, default_count}
-use Rattle.scop_core.proofs.ReadBackSolved.{schedule_reads_back, access_reads_back}
+use Rattle.schedule_forms.proofs.ReadBackSolved.{schedule_reads_back, access_reads_back}
 
 -- tests and first answers
 pub or_none : {X : Type 0} (a b : Option X) → or_else a b ≡ None → (a ≡ None) × (b ≡ None)

@@ -8,19 +8,19 @@ use Rattle.row_core.specs.Rows.{entry, AreCoefficients}
 use Rattle.relation_core.specs.Systems.{System, columns, row_at}
 use Rattle.relation_core.specs.declared.shapes.Shape.{Shape}
 use Rattle.relation_core.specs.declared.part_rows.PartRow.{PartRow}
-use Rattle.scop_core.specs.declared.accesses.AccessKind.{AccessKind}
-use Rattle.scop_core.specs.declared.raw_pieces.RawStatement.{RawStatement}
-use Rattle.scop_core.specs.SolvedForm.{local_column, cleared, affine_of, first_row, is_output_row, is_low_row, output_row, low_row_of, value_at, floor_at, levels_from, betas_from, floors_from, values_from, schedule_of, access_of, is_scattering, is_access}
+use Rattle.scop_data.specs.declared.accesses.AccessKind.{AccessKind}
+use Rattle.scop_data.specs.declared.raw_pieces.RawStatement.{RawStatement}
+use Rattle.schedule_forms.specs.SolvedForm.{local_column, cleared, affine_of, first_row, is_output_row, is_low_row, output_row, low_row_of, value_at, floor_at, levels_from, betas_from, floors_from, values_from, schedule_of, access_of, is_scattering, is_access}
 use Rattle.scop_core.specs.Assembly.{is_one, the_part, are_solved, iterators_of, solved_accesses, solved_statement, solved_statements, first_unsolved, scop_of, HasShapes}
 use Rattle.scop_core.specs.Printable.{IsDomainPart, IsPrintableStatement}
 use Rattle.scop_core.specs.Held.{IsFormed, StatementIsHeld}
 use Rattle.scop_core.specs.Validity.{IsValid}
-use Rattle.scop_core.specs.ReadBack.{IsSolvedStatement}
+use Rattle.scop_data.specs.SolvedData.{IsSolvedStatement}
 use Rattle.scop_core.specs.Shapes.{IsInRange, AffineIsInRange, FloorIsInRange, ScheduleIsInRange, AccessIsInRange, IsShapedStatement, IsShapedScop, IsFormedStatement, IsFormedScop, ValidScopsAreShaped, ValidScopsAreFormed}
-use Rattle.scop_core.specs.declared.statements.Statement.{Statement}
-use Rattle.scop_core.specs.Theorems.{IsStatement}
-use Rattle.scop_core.proofs.SolvedShapes.{both}
-use Rattle.scop_core.proofs.ReadBackLists.{negative_entry}
+use Rattle.scop_data.specs.declared.statements.Statement.{Statement}
+use Rattle.scop_data.specs.Theorems.{IsStatement}
+use Rattle.schedule_forms.proofs.SolvedShapes.{both}
+use Rattle.schedule_forms.proofs.ReadBackLists.{negative_entry}
 use Rattle.scop_core.proofs.ReadBackPieces.{or_none, unless_some, body_count, statements_solved}
 
 -- ---- ranges

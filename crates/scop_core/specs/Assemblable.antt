@@ -1,9 +1,9 @@
 -- When a SCoP as data is what pieces give: its own, without a refusal.
 use Rattle.std.specs.Prelude.{ℕ, ◌≡◌, ◌≢◌, true, List, length, All, IfSome}
-use Rattle.scop_core.specs.declared.statements.Statement.{Statement}
-use Rattle.scop_core.specs.ScopData.{ScopData}
-use Rattle.scop_core.specs.Order.{IsPrefix}
-use Rattle.scop_core.specs.Theorems.{IsStatement}
+use Rattle.scop_data.specs.declared.statements.Statement.{Statement}
+use Rattle.scop_data.specs.ScopData.{ScopData}
+use Rattle.scop_data.specs.Order.{IsPrefix}
+use Rattle.scop_data.specs.Theorems.{IsStatement}
 use Rattle.scop_core.specs.Printable.{is_name, are_names, is_body, are_kept, are_arrays, body_name, arrays_name}
 use Rattle.scop_core.specs.Shapes.{IsShapedScop}
 use Rattle.scop_core.specs.KeptLimits.{KeepsLimits}

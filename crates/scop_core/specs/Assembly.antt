@@ -9,16 +9,16 @@ use Rattle.suite_base.specs.declared.refusals.Which.TheVariants.{Statements, Ite
 use Rattle.suite_base.specs.declared.refusals.Fail.{Fail}
 use Rattle.suite_base.specs.declared.refusals.Fail.TheVariants.{Memory, Refused}
 use Rattle.relation_core.specs.Systems.{System}
-use Rattle.scop_core.specs.declared.accesses.AccessKind.{AccessKind}
-use Rattle.scop_core.specs.declared.accesses.Access.{Access}
+use Rattle.scop_data.specs.declared.accesses.AccessKind.{AccessKind}
+use Rattle.scop_data.specs.declared.accesses.Access.{Access}
 use Rattle.scop_core.specs.declared.limits.PartCount.{PartCount}
 use Rattle.scop_core.specs.declared.limits.PartCount.TheVariants.{OutputCount, LocalCount, RowCount}
-use Rattle.scop_core.specs.declared.statements.Body.{Body}
-use Rattle.scop_core.specs.declared.statements.Statement.{Statement}
-use Rattle.scop_core.specs.declared.raw_pieces.RawStatement.{RawStatement}
-use Rattle.scop_core.specs.declared.raw_pieces.ScopPieces.{ScopPieces}
-use Rattle.scop_core.specs.SolvedForm.{is_scattering, is_access, schedule_of, access_of}
-use Rattle.scop_core.specs.ScopData.{ScopData}
+use Rattle.scop_data.specs.declared.statements.Body.{Body}
+use Rattle.scop_data.specs.declared.statements.Statement.{Statement}
+use Rattle.scop_data.specs.declared.raw_pieces.RawStatement.{RawStatement}
+use Rattle.scop_data.specs.declared.raw_pieces.ScopPieces.{ScopPieces}
+use Rattle.schedule_forms.specs.SolvedForm.{is_scattering, is_access, schedule_of, access_of}
+use Rattle.scop_data.specs.ScopData.{ScopData}
 
 -- the first answer, or else the second
 abbrev pub or_else : {X : Type 0} → Option X → Option X → Option X

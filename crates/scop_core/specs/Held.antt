@@ -1,8 +1,8 @@
 -- Pieces that types hold.
 use Rattle.std.specs.Prelude.{◌^◌, ◌<◌, unsigned_abs, length, All, IfSome}
 use Rattle.relation_core.specs.Systems.{System, IsWellFormed}
-use Rattle.scop_core.specs.declared.raw_pieces.RawStatement.{RawStatement}
-use Rattle.scop_core.specs.declared.raw_pieces.ScopPieces.{ScopPieces}
+use Rattle.scop_data.specs.declared.raw_pieces.RawStatement.{RawStatement}
+use Rattle.scop_data.specs.declared.raw_pieces.ScopPieces.{ScopPieces}
 
 -- rows are as wide as the shape, entries are coefficients, no number of the shape is too large
 abbrev pub IsFormed : System → Type 0

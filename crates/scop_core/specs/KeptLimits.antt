@@ -1,8 +1,8 @@
 -- The limits that every valid SCoP keeps, and its valid schedules.
 use Rattle.std.specs.Prelude.{ℕ, ◌≤◌, List, length, All}
-use Rattle.scop_core.specs.declared.statements.Statement.{Statement}
-use Rattle.scop_core.specs.ScopData.{ScopData, arrays_of}
-use Rattle.scop_core.specs.Theorems.{HasValidSchedules}
+use Rattle.scop_data.specs.declared.statements.Statement.{Statement}
+use Rattle.scop_data.specs.ScopData.{ScopData, arrays_of}
+use Rattle.scop_data.specs.Theorems.{HasValidSchedules}
 use Rattle.scop_core.specs.Validity.{IsValid}
 
 -- a statement keeps the limits of its domain, its schedule and its accesses

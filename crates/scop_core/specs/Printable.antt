@@ -7,10 +7,10 @@ use Rattle.suite_base.specs.Lines.{trim}
 use Rattle.suite_base.specs.Words.{begins_word, is_word, spaced}
 use Rattle.suite_base.specs.Numbers.{is_digit}
 use Rattle.relation_core.specs.Systems.{System}
-use Rattle.scop_core.specs.declared.statements.Body.{Body}
-use Rattle.scop_core.specs.declared.statements.Extension.{Extension}
-use Rattle.scop_core.specs.declared.raw_pieces.RawStatement.{RawStatement}
-use Rattle.scop_core.specs.declared.raw_pieces.ScopPieces.{ScopPieces}
+use Rattle.scop_data.specs.declared.statements.Body.{Body}
+use Rattle.scop_data.specs.declared.statements.Extension.{Extension}
+use Rattle.scop_data.specs.declared.raw_pieces.RawStatement.{RawStatement}
+use Rattle.scop_data.specs.declared.raw_pieces.ScopPieces.{ScopPieces}
 use Rattle.scop_core.specs.Assembly.{iterators_of, HasShapes}
 
 -- the byte b stands nowhere

@@ -1,15 +1,15 @@
 -- What a valid SCoP knows of its shapes, of the sizes of its forms, and of the ranges of its coefficients.
 use Rattle.std.specs.Prelude.{ℤ, ℕ, ◌^◌, ◌<◌, ◌≡◌, true, length, unsigned_abs, All, IfSome}
 use Rattle.row_core.specs.Rows.{AreCoefficients}
-use Rattle.scop_core.specs.declared.affines.Affine.{Affine}
-use Rattle.scop_core.specs.declared.accesses.Access.{Access}
-use Rattle.scop_core.specs.declared.schedules.Floor.{Floor}
-use Rattle.scop_core.specs.declared.schedules.Schedule.{Schedule}
-use Rattle.scop_core.specs.declared.statements.Statement.{Statement}
-use Rattle.scop_core.specs.ScopData.{ScopData}
+use Rattle.scop_data.specs.declared.affines.Affine.{Affine}
+use Rattle.scop_data.specs.declared.accesses.Access.{Access}
+use Rattle.scop_data.specs.declared.schedules.Floor.{Floor}
+use Rattle.scop_data.specs.declared.schedules.Schedule.{Schedule}
+use Rattle.scop_data.specs.declared.statements.Statement.{Statement}
+use Rattle.scop_data.specs.ScopData.{ScopData}
 use Rattle.scop_core.specs.Held.{IsFormed}
 use Rattle.scop_core.specs.Printable.{IsContext, IsDomainPart, has_part}
-use Rattle.scop_core.specs.ReadBack.{IsSolvedSchedule, IsSolvedAccess}
+use Rattle.scop_data.specs.SolvedData.{IsSolvedSchedule, IsSolvedAccess}
 use Rattle.scop_core.specs.Validity.{IsValid}
 
 -- the domain has a part, and each of its parts has the iterators as outputs, no inputs and so many

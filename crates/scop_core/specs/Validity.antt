@@ -1,17 +1,11 @@
 -- What is true of every Scop.
-use Rattle.std.specs.Prelude.{◌≡◌, ℕ, List, length, All, None}
-use Rattle.scop_core.specs.declared.statements.Statement.{Statement}
-use Rattle.scop_core.specs.declared.raw_pieces.ScopPieces.{ScopPieces}
-use Rattle.scop_core.specs.SolvedRows.{HasRelation, HasAccessRelation}
-use Rattle.scop_core.specs.ScopData.{ScopData}
+use Rattle.std.specs.Prelude.{◌≡◌, All, None}
+use Rattle.scop_data.specs.declared.raw_pieces.ScopPieces.{ScopPieces}
+pub use Rattle.scop_data.specs.SolvedData.{HasRelations}
+use Rattle.scop_data.specs.ScopData.{ScopData}
 use Rattle.scop_core.specs.Assembly.{refusal_of, scop_of}
 use Rattle.scop_core.specs.Held.{IsHeld}
 use Rattle.scop_core.specs.Printable.{IsPrintable}
-
--- the schedule and the accesses of a statement can be printed
-pub record HasRelations (parameters : ℕ) (statement : Statement) : Type 0 where
-  pub schedule : HasRelation (length statement.body.iterators) parameters statement.schedule
-  pub accesses : All (HasAccessRelation (length statement.body.iterators) parameters) statement.accesses
 
 -- the SCoP of printable pieces that have no refusal, and are such as types hold
 pub record IsAssembled (scop : ScopData) : Type 0 where

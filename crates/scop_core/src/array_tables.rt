@@ -3,9 +3,9 @@
 ghost use Rattle.std.specs.Prelude.{◌≡◌, ◌<◌, [], ◌∷◌, ◌++◌, length, slice_get, take, true, None, Some, MatchOption, OnOk, IfOk, IfSome};
 ghost use Rattle.scop_core.specs.Printable.{are_arrays, has_no_array};
 
-use crate::copies::copied_text;
 use indexmap::IndexMap;
 use row_core::Coeff;
+use scop_data::copies::copied_text;
 use std::alloc::Global;
 use std::marker::Model;
 use suite_base::{List, NoMemory, Text};

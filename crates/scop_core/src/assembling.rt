@@ -2,18 +2,15 @@
 
 ghost use Rattle.std.specs.Prelude.{◌≡◌, ◌<◌, ◌≤◌, ◌+◌, [], ◌∷◌, ◌++◌, length, true, None, All, IfOk, IfSome, OnOk, ℕ};
 ghost use Rattle.std.specs.Fmt.{decimal};
-ghost use Rattle.scop_core.specs.SolvedRows.{HasRelation, HasAccessRelation};
-ghost use Rattle.scop_core.specs.SolvedForm.{is_scattering, is_access, schedule_of, access_of};
+ghost use Rattle.scop_data.specs.SolvedRows.{HasRelation, HasAccessRelation};
+ghost use Rattle.schedule_forms.specs.SolvedForm.{is_scattering, is_access, schedule_of, access_of};
 ghost use Rattle.scop_core.specs.Assembly.{is_one, the_part, are_solved, is_solved, first_unsolved, iterators_of, default_names, body_from, solved_accesses, solved_statement, solved_statements, HasInputs, HasNames, HasShapes};
-ghost use Rattle.scop_core.specs.Validity.{HasRelations};
+ghost use Rattle.scop_data.specs.SolvedData.{HasRelations};
 
-use crate::accesses::{Access, AccessKind};
-use crate::copies::{copied_body, copied_extensions, copied_relation};
-use crate::raw_pieces::RawStatement;
-use crate::schedules::Schedule;
-use crate::solved_forms::{solved_access, solved_schedule, solves_access, solves_schedule};
-use crate::statements::{Body, Statement};
 use relation_core::Relation;
+use schedule_forms::{solved_access, solved_schedule, solves_access, solves_schedule};
+use scop_data::copies::{copied_body, copied_extensions, copied_relation};
+use scop_data::{Access, AccessKind, Body, RawStatement, Schedule, Statement};
 use std::alloc::Global;
 use suite_base::{List, NoMemory, Refusal, Text};
 

@@ -3,8 +3,8 @@
 ghost use Rattle.std.specs.Prelude.{◌≡◌, ◌<◌, ◌≤◌, ◌+◌, [], length};
 ghost use Rattle.scop_core.specs.Assembly.{vectors_clash, clash_among, first_clash};
 
-use crate::statements::Statement;
 use row_core::Coeff;
+use scop_data::Statement;
 use suite_base::Refusal;
 
 // Whether two vectors are equal, or one is a prefix of the other.

@@ -3,10 +3,9 @@
 ghost use Rattle.std.specs.Prelude.{All, IfSome, ◌<◌, ◌^◌, unsigned_abs};
 ghost use Rattle.scop_core.specs.Held.{IsFormed, StatementIsHeld, IsHeld};
 
-use crate::accesses::AccessKind;
-use crate::raw_pieces::{RawStatement, ScopPieces};
 use relation_core::Relation;
 use row_core::Coeff;
+use scop_data::{AccessKind, RawStatement, ScopPieces};
 use suite_base::{List, Text};
 
 // Every part of a relation is well-formed.

@@ -3,10 +3,9 @@
 ghost use Rattle.std.specs.Prelude.{◌≡◌, ◌<◌, ◌≤◌, ◌+◌, ◌||◌, length, None, nat_lt, MatchOption};
 ghost use Rattle.scop_core.specs.Assembly.{array_count, count_of, some_above, accesses_above, statement_above, accesses_many, has_many_parts, whole_limit, statement_limit, first_limit};
 
-use crate::accesses::AccessKind;
-use crate::raw_pieces::{RawStatement, ScopPieces};
 use relation_core::{Part, Relation};
 use row_core::Coeff;
+use scop_data::{AccessKind, RawStatement, ScopPieces};
 use suite_base::{List, Refusal, Text, Which};
 
 /// What is counted of a part.

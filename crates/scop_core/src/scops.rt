@@ -5,22 +5,22 @@ ghost use Rattle.std.specs.Option.{option_copied};
 ghost use Rattle.row_core.specs.Dense.{dense_of};
 ghost use Rattle.scop_core.specs.Assembly.{first_unsolved, solved_statements, early_refusal_of, refusal_of, scop_of, HasCause, HasShapes};
 ghost use Rattle.scop_core.specs.Printable.{IsPrintable, arrays_name, is_kept};
-ghost use Rattle.scop_core.specs.ScopData.{arrays_of, betas_in, extended};
-ghost use Rattle.scop_core.specs.Validity.{HasRelations, IsValid};
+ghost use Rattle.scop_data.specs.ScopData.{arrays_of, betas_in, extended};
+ghost use Rattle.scop_data.specs.SolvedData.{HasRelations};
+ghost use Rattle.scop_core.specs.Validity.{IsValid};
 
 use crate::array_tables::{ArrayTable, copied_table, table_of};
 use crate::assembling::{statements_from, unsolved_statement};
 use crate::clashes::statements_clash;
-use crate::copies::{
+use crate::held::pieces_are_held;
+use crate::limits::{pieces_limit, statements_limit};
+use relation_core::Part;
+use row_core::{Coeff, dense_vectors};
+use scop_data::copies::{
     beta_vectors, copied_extensions, copied_names, copied_part, copied_statements, copied_text,
     extensions_with,
 };
-use crate::held::pieces_are_held;
-use crate::limits::{pieces_limit, statements_limit};
-use crate::raw_pieces::ScopPieces;
-use crate::statements::{Extension, Statement};
-use relation_core::Part;
-use row_core::{Coeff, dense_vectors};
+use scop_data::{Extension, ScopPieces, Statement};
 use std::alloc::Global;
 use std::marker::Model;
 use suite_base::{Fail, List, NoMemory, Refusal, Text};
@@ -37,7 +37,7 @@ pub struct Scop {
 }
 
 impl Model for Scop {
-    ghost use Rattle.scop_core.specs.ScopData.{ScopData};
+    ghost use Rattle.scop_data.specs.ScopData.{ScopData};
 
     ghost Value = { ScopData };
 

@@ -1,14 +1,7 @@
-//! The laws of the shapes of SCoPs and of the rows of their floors: functions that do nothing, and whose
-//! contracts are the laws.
+//! The laws of the shapes of SCoPs: functions that do nothing, and whose contracts are the laws.
 
 ghost use Rattle.scop_core.specs.Assemblable.{AssemblableDataReadsBack, ValidScopsAreAssemblable};
 ghost use Rattle.scop_core.specs.Shapes.{ValidScopsAreFormed, ValidScopsAreShaped};
-ghost use Rattle.scop_core.specs.SolvedLaws.{FloorRowsMeanFloors};
-
-/// The rows of floors in solved form hold exactly where each local is the value of its floor.
-pub fn floor_rows_mean_floors()
-    ensures { FloorRowsMeanFloors }
-{}
 
 /// The shapes of a valid SCoP: the context has parameters alone; each domain has a part, and each of its
 /// parts the iterators as outputs and no inputs; schedules and accesses are in solved form, with forms of

@@ -7,9 +7,9 @@ use Rattle.relation_core.specs.Systems.{System}
 use Rattle.relation_core.specs.declared.part_rows.RowKind.{RowKind}
 use Rattle.relation_core.specs.declared.part_rows.RowKind.TheVariants.{Equal, AtLeast}
 use Rattle.relation_core.specs.declared.part_rows.PartRow.{PartRow}
-use Rattle.scop_core.specs.declared.accesses.AccessKind.TheVariants.{Write}
-use Rattle.scop_core.specs.declared.statements.Body.{Body}
-use Rattle.scop_core.specs.declared.statements.Extension.{Extension}
+use Rattle.scop_data.specs.declared.accesses.AccessKind.TheVariants.{Write}
+use Rattle.scop_data.specs.declared.statements.Body.{Body}
+use Rattle.scop_data.specs.declared.statements.Extension.{Extension}
 use Rattle.scop_reader.specs.Lines.{words_of, behind_silent}
 use Rattle.scop_reader.specs.Reading.{said_line, next_said, literal, closing, word_line}
 use Rattle.scop_reader.specs.Rules

@@ -7,7 +7,7 @@ use Rattle.std.proofs.lemmas.Slice.Eq.{bytes_eq-Decides}
 use Rattle.suite_base.specs.declared.refusals.Refusal.TheVariants.{BadScop}
 use Rattle.suite_base.specs.Words.{content, spaced}
 use Rattle.suite_base.proofs.LineCuts.{bool_tells}
-use Rattle.scop_core.specs.declared.statements.Body.{Body}
+use Rattle.scop_data.specs.declared.statements.Body.{Body}
 use Rattle.scop_core.specs.Printable.{are_names, end_line, body_name, is_body_line, is_body}
 use Rattle.scop_reader.specs.Lines.{Rest, Line, words_of, word_bytes, behind_silent, is_silent}
 use Rattle.scop_reader.specs.Reading.{Reader, and_then, said_line, next_said, first_line, word_line, closing}

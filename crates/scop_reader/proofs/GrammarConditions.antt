@@ -8,7 +8,7 @@ use Rattle.std.proofs.lemmas.List.Elements.{All-from_recursion, recursion_from_A
 use Rattle.suite_base.specs.declared.refusals.Refusal.TheVariants.{Limit}
 use Rattle.suite_base.specs.declared.refusals.Which.TheVariants as which
 use Rattle.relation_core.specs.Systems.{System, width}
-use Rattle.scop_core.specs.declared.accesses.AccessKind.{AccessKind}
+use Rattle.scop_data.specs.declared.accesses.AccessKind.{AccessKind}
 use Rattle.scop_core.specs.declared.limits.PartCount.TheVariants.{OutputCount, LocalCount, RowCount}
 use Rattle.scop_core.specs.Assembly.{some_above, accesses_above, accesses_many, the_part, HasInputs}
 use Rattle.scop_core.specs.Printable.{is_kept, are_kept, has_part, IsDomainPart}

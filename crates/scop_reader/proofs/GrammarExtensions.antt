@@ -10,8 +10,8 @@ use Rattle.suite_base.specs.declared.refusals.Refusal.TheVariants.{BadScop}
 use Rattle.suite_base.specs.Lines.{trim}
 use Rattle.suite_base.specs.Words.{content}
 use Rattle.suite_base.proofs.LineCuts.{bool_tells}
-use Rattle.scop_core.specs.declared.statements.Body.{Body}
-use Rattle.scop_core.specs.declared.statements.Extension.{Extension}
+use Rattle.scop_data.specs.declared.statements.Body.{Body}
+use Rattle.scop_data.specs.declared.statements.Extension.{Extension}
 use Rattle.scop_core.specs.Printable.{has_no, end_line, body_name, arrays_name, is_extension_name, is_letter, are_letters_or_digits, are_kept_lines, is_kept}
 use Rattle.scop_reader.specs.Lines.{Rest}
 use Rattle.scop_reader.specs.Reading.{Outcome, Reader, and_then, said_line, next_said, literal}

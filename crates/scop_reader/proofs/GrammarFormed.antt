@@ -10,16 +10,16 @@ use Rattle.row_core.specs.Rows.{entry, AreCoefficients}
 use Rattle.relation_core.specs.declared.shapes.Shape.{Shape}
 use Rattle.relation_core.specs.declared.part_rows.PartRow.{PartRow}
 use Rattle.relation_core.specs.Systems.{System, columns, width, row_at, HasLimits, IsWellFormed}
-use Rattle.scop_core.specs.declared.affines.Affine.{Affine}
-use Rattle.scop_core.specs.declared.schedules.Floor.{Floor}
-use Rattle.scop_core.specs.declared.schedules.Schedule.{Schedule}
-use Rattle.scop_core.specs.declared.accesses.AccessKind.{AccessKind}
-use Rattle.scop_core.specs.declared.accesses.Access.{Access}
+use Rattle.scop_data.specs.declared.affines.Affine.{Affine}
+use Rattle.scop_data.specs.declared.schedules.Floor.{Floor}
+use Rattle.scop_data.specs.declared.schedules.Schedule.{Schedule}
+use Rattle.scop_data.specs.declared.accesses.AccessKind.{AccessKind}
+use Rattle.scop_data.specs.declared.accesses.Access.{Access}
 use Rattle.scop_core.specs.SolvedRows.{zeros, unit, raised, with_columns, value_row, constant_row, dimension_rows, low_row, high_row, floor_rows, schedule_shape, schedule_rows, schedule_part, access_shape, value_rows, access_rows, access_part, HasSizes, PairFits, HasRelation, HasAccessRelation}
 use Rattle.scop_core.specs.SolvedForm.{local_column, affine_of, first_row, output_row, value_at, low_row_of, cleared, floor_at, levels_from, betas_from, floors_from, schedule_of, values_from, access_of, is_scattering, is_access}
-use Rattle.scop_core.proofs.ReadBackLists.{length_unit, length_raised}
-use Rattle.scop_core.proofs.ReadBackRows.{Fits, first}
-use Rattle.scop_core.proofs.SolvedPieces.{solved_is_solved, access_is_solved}
+use Rattle.schedule_forms.proofs.ReadBackLists.{length_unit, length_raised}
+use Rattle.schedule_forms.proofs.ReadBackRows.{Fits, first}
+use Rattle.schedule_forms.proofs.SolvedPieces.{solved_is_solved, access_is_solved}
 use Rattle.scop_core.specs.Held.{IsFormed}
 use Rattle.scop_reader.proofs.GrammarPrinted.{AreSmall}
 

@@ -13,13 +13,13 @@ use Rattle.relation_core.specs.declared.part_rows.RowKind.{RowKind}
 use Rattle.relation_core.specs.declared.part_rows.RowKind.TheVariants.{Equal, AtLeast}
 use Rattle.relation_core.specs.declared.part_rows.PartRow.{PartRow}
 use Rattle.relation_core.specs.Systems.{System, columns, row_at}
-use Rattle.scop_core.specs.declared.accesses.AccessKind.{AccessKind}
-use Rattle.scop_core.specs.declared.accesses.AccessKind.TheVariants as kind
+use Rattle.scop_data.specs.declared.accesses.AccessKind.{AccessKind}
+use Rattle.scop_data.specs.declared.accesses.AccessKind.TheVariants as kind
 use Rattle.scop_core.specs.declared.limits.PartCount.TheVariants.{RowCount}
-use Rattle.scop_core.specs.declared.statements.Body.{Body}
-use Rattle.scop_core.specs.declared.statements.Extension.{Extension}
-use Rattle.scop_core.specs.declared.raw_pieces.RawStatement.{RawStatement}
-use Rattle.scop_core.specs.declared.raw_pieces.ScopPieces.{ScopPieces}
+use Rattle.scop_data.specs.declared.statements.Body.{Body}
+use Rattle.scop_data.specs.declared.statements.Extension.{Extension}
+use Rattle.scop_data.specs.declared.raw_pieces.RawStatement.{RawStatement}
+use Rattle.scop_data.specs.declared.raw_pieces.ScopPieces.{ScopPieces}
 use Rattle.scop_core.specs.Layouts.{access_word}
 use Rattle.scop_core.specs.Assembly.{some_above, accesses_above, accesses_many, array_count, first_limit, statement_limit, the_part, iterators_of, HasShapes}
 use Rattle.scop_core.specs.Printable.{has_no, is_plain, is_name, are_names, is_body_line, is_body, end_line, body_name, arrays_name, is_extension_name, are_kept_lines, is_kept, are_kept, has_no_array, are_arrays, IsPrintableStatement, IsPrintable}

@@ -5,12 +5,12 @@ use Rattle.std.specs.List.{AllByRecursion}
 use Rattle.std.proofs.lemmas.Bool.{and_parts}
 use Rattle.std.proofs.lemmas.List.Elements.{All-from_recursion, recursion_from_All}
 use Rattle.relation_core.specs.Systems.{System}
-use Rattle.scop_core.specs.declared.accesses.AccessKind.{AccessKind}
-use Rattle.scop_core.specs.declared.accesses.Access.{Access}
-use Rattle.scop_core.specs.declared.statements.Body.{Body}
-use Rattle.scop_core.specs.declared.statements.Statement.{Statement}
-use Rattle.scop_core.specs.declared.raw_pieces.RawStatement.{RawStatement}
-use Rattle.scop_core.specs.declared.raw_pieces.ScopPieces.{ScopPieces}
+use Rattle.scop_data.specs.declared.accesses.AccessKind.{AccessKind}
+use Rattle.scop_data.specs.declared.accesses.Access.{Access}
+use Rattle.scop_data.specs.declared.statements.Body.{Body}
+use Rattle.scop_data.specs.declared.statements.Statement.{Statement}
+use Rattle.scop_data.specs.declared.raw_pieces.RawStatement.{RawStatement}
+use Rattle.scop_data.specs.declared.raw_pieces.ScopPieces.{ScopPieces}
 use Rattle.scop_core.specs.SolvedRows.{schedule_part, access_part, HasRelation, HasAccessRelation}
 use Rattle.scop_core.specs.SolvedForm.{is_scattering, is_access, schedule_of, access_of}
 use Rattle.scop_core.specs.Assembly.{or_else, whole_limit, first_limit, early_refusal_of, first_clash, is_one, the_part, are_solved, is_solved, first_unsolved, iterators_of, body_from, solved_accesses, solved_statement, solved_statements, refusal_of, scop_of, HasInputs, HasShapes}
@@ -18,7 +18,7 @@ use Rattle.scop_core.specs.Printable.{IsPrintable}
 use Rattle.scop_core.specs.ReadBack.{access_piece, statement_pieces as printed_statement, pieces_of as printed_pieces}
 use Rattle.scop_core.specs.Validity.{HasRelations, IsValid}
 use Rattle.scop_core.proofs.ReadBackNames.{default_count}
-use Rattle.scop_core.proofs.SolvedPieces.{solved_is_solved, access_is_solved}
+use Rattle.schedule_forms.proofs.SolvedPieces.{solved_is_solved, access_is_solved}
 use Rattle.scop_core.specs.Held.{IsFormed, StatementIsHeld, IsHeld}
 use Rattle.scop_reader.proofs.GrammarProper.{no_first}
 use Rattle.scop_reader.proofs.GrammarFormed.{scattering_formed, access_part_formed}

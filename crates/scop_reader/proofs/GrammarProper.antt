@@ -10,11 +10,11 @@ use Rattle.suite_base.specs.declared.refusals.Refusal.TheVariants.{Limit}
 use Rattle.suite_base.specs.declared.refusals.Which.TheVariants as which
 use Rattle.suite_base.proofs.LineCuts.{bool_tells}
 use Rattle.relation_core.specs.Systems.{System, width}
-use Rattle.scop_core.specs.declared.accesses.AccessKind.{AccessKind}
+use Rattle.scop_data.specs.declared.accesses.AccessKind.{AccessKind}
 use Rattle.scop_core.specs.declared.limits.PartCount.TheVariants.{OutputCount, LocalCount, RowCount}
-use Rattle.scop_core.specs.declared.statements.Body.{Body}
-use Rattle.scop_core.specs.declared.raw_pieces.RawStatement.{RawStatement}
-use Rattle.scop_core.specs.declared.raw_pieces.ScopPieces.{ScopPieces}
+use Rattle.scop_data.specs.declared.statements.Body.{Body}
+use Rattle.scop_data.specs.declared.raw_pieces.RawStatement.{RawStatement}
+use Rattle.scop_data.specs.declared.raw_pieces.ScopPieces.{ScopPieces}
 use Rattle.scop_core.specs.Assembly.{or_else, array_count, some_above, accesses_above, statement_above, accesses_many, has_many_parts, whole_limit, statement_limit, first_limit, the_part, HasInputs, HasShapes, scop_of}
 use Rattle.scop_core.specs.Printable.{is_body, are_names, are_arrays, body_name, arrays_name, has_part, IsContext, IsDomainPart, IsPrintableStatement, IsPrintable}
 use Rattle.scop_reader.specs.declared.roles.Role.TheVariants.{Context, Domain, Scattering}

@@ -12,8 +12,8 @@ use Rattle.suite_base.specs.declared.refusals.Which.TheVariants as which
 use Rattle.suite_base.specs.Words.{content}
 use Rattle.suite_base.proofs.LineCuts.{bool_tells}
 use Rattle.relation_core.specs.Systems.{System}
-use Rattle.scop_core.specs.declared.accesses.AccessKind.{AccessKind}
-use Rattle.scop_core.specs.declared.accesses.AccessKind.TheVariants as kind
+use Rattle.scop_data.specs.declared.accesses.AccessKind.{AccessKind}
+use Rattle.scop_data.specs.declared.accesses.AccessKind.TheVariants as kind
 use Rattle.scop_core.specs.Layouts.{access_word}
 use Rattle.scop_core.specs.Printable.{has_part}
 use Rattle.scop_reader.specs.declared.roles.Role.{Role}

@@ -12,13 +12,13 @@ use Rattle.relation_core.specs.declared.part_rows.RowKind.TheVariants.{Equal, At
 use Rattle.relation_core.specs.declared.part_rows.PartRow.{PartRow}
 use Rattle.relation_core.specs.Systems.{System}
 use Rattle.relation_core.specs.Layouts.{spaced as after_space, header_line, kind_digit, row_line, part_layout}
-use Rattle.scop_core.specs.declared.accesses.AccessKind.{AccessKind}
-use Rattle.scop_core.specs.declared.accesses.Access.{Access}
-use Rattle.scop_core.specs.declared.statements.Body.{Body}
-use Rattle.scop_core.specs.declared.statements.Extension.{Extension}
-use Rattle.scop_core.specs.declared.statements.Statement.{Statement}
-use Rattle.scop_core.specs.declared.raw_pieces.RawStatement.{RawStatement}
-use Rattle.scop_core.specs.declared.raw_pieces.ScopPieces.{ScopPieces}
+use Rattle.scop_data.specs.declared.accesses.AccessKind.{AccessKind}
+use Rattle.scop_data.specs.declared.accesses.Access.{Access}
+use Rattle.scop_data.specs.declared.statements.Body.{Body}
+use Rattle.scop_data.specs.declared.statements.Extension.{Extension}
+use Rattle.scop_data.specs.declared.statements.Statement.{Statement}
+use Rattle.scop_data.specs.declared.raw_pieces.RawStatement.{RawStatement}
+use Rattle.scop_data.specs.declared.raw_pieces.ScopPieces.{ScopPieces}
 use Rattle.scop_core.specs.Layouts.{line, number_line, names_line, parts_line, relation_layout, access_word, access_layout, body_layout, extension_layout, statement_layout, parameters_layout, array_line, arrays_layout, layout}
 use Rattle.scop_core.specs.Printable.{end_line, body_name, arrays_name}
 use Rattle.scop_core.specs.ReadBack.{access_piece, statement_pieces as printed_statement, pieces_of as printed_pieces}

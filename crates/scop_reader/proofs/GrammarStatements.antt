@@ -5,9 +5,9 @@ use Rattle.std.specs.List.{flat_map}
 use Rattle.std.proofs.lemmas.List.{append-nil}
 use Rattle.suite_base.specs.declared.refusals.Which.TheVariants as which
 use Rattle.relation_core.specs.Systems.{System}
-use Rattle.scop_core.specs.declared.accesses.AccessKind.{AccessKind}
-use Rattle.scop_core.specs.declared.statements.Body.{Body}
-use Rattle.scop_core.specs.declared.raw_pieces.RawStatement.{RawStatement}
+use Rattle.scop_data.specs.declared.accesses.AccessKind.{AccessKind}
+use Rattle.scop_data.specs.declared.statements.Body.{Body}
+use Rattle.scop_data.specs.declared.raw_pieces.RawStatement.{RawStatement}
 use Rattle.scop_core.specs.Printable.{body_name}
 use Rattle.scop_reader.specs.declared.roles.Role.TheVariants.{Domain, Scattering}
 use Rattle.scop_reader.specs.Lines.{Rest}

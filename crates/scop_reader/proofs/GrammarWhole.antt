@@ -10,8 +10,8 @@ use Rattle.suite_base.specs.Lines.{lines}
 use Rattle.suite_base.specs.Words.{content}
 use Rattle.suite_base.proofs.LineCuts.{bool_tells}
 use Rattle.relation_core.specs.Systems.{System}
-use Rattle.scop_core.specs.declared.raw_pieces.RawStatement.{RawStatement}
-use Rattle.scop_core.specs.declared.raw_pieces.ScopPieces.{ScopPieces}
+use Rattle.scop_data.specs.declared.raw_pieces.RawStatement.{RawStatement}
+use Rattle.scop_data.specs.declared.raw_pieces.ScopPieces.{ScopPieces}
 use Rattle.scop_core.specs.Printable.{has_no, is_name, are_names, arrays_name}
 use Rattle.scop_reader.specs.declared.roles.Role.TheVariants.{Context}
 use Rattle.scop_reader.specs.Lines.{Rest}

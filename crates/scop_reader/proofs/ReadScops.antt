@@ -4,7 +4,7 @@ use Rattle.std.specs.Prelude.{IfOk, OnOk, IfErr}
 use Rattle.suite_base.specs.declared.refusals.Fail.{Fail}
 use Rattle.suite_base.specs.declared.refusals.Fail.TheVariants as fail
 use Rattle.suite_base.specs.declared.refusals.Refusal.{Refusal}
-use Rattle.scop_core.specs.declared.raw_pieces.ScopPieces.{ScopPieces}
+use Rattle.scop_data.specs.declared.raw_pieces.ScopPieces.{ScopPieces}
 use Rattle.scop_core.specs.Assembly.{refusal_of, scop_of, HasCause}
 use Rattle.scop_core.specs.ScopData.{ScopData}
 use Rattle.scop_reader.specs.Texts.{IsScopText, GivesScop, pieces_in, fault_from, fault}

@@ -13,11 +13,11 @@ use Rattle.relation_core.specs.declared.part_rows.RowKind.{RowKind}
 use Rattle.relation_core.specs.declared.part_rows.RowKind.TheVariants.{Equal, AtLeast}
 use Rattle.relation_core.specs.declared.part_rows.PartRow.{PartRow}
 use Rattle.relation_core.specs.Systems.{System, columns}
-use Rattle.scop_core.specs.declared.accesses.AccessKind.{AccessKind}
-use Rattle.scop_core.specs.declared.statements.Body.{Body}
-use Rattle.scop_core.specs.declared.statements.Extension.{Extension}
-use Rattle.scop_core.specs.declared.raw_pieces.RawStatement.{RawStatement}
-use Rattle.scop_core.specs.declared.raw_pieces.ScopPieces.{ScopPieces}
+use Rattle.scop_data.specs.declared.accesses.AccessKind.{AccessKind}
+use Rattle.scop_data.specs.declared.statements.Body.{Body}
+use Rattle.scop_data.specs.declared.statements.Extension.{Extension}
+use Rattle.scop_data.specs.declared.raw_pieces.RawStatement.{RawStatement}
+use Rattle.scop_data.specs.declared.raw_pieces.ScopPieces.{ScopPieces}
 use Rattle.scop_core.specs.Layouts.{access_word}
 use Rattle.scop_core.specs.Printable.{end_line, body_name, arrays_name}
 use Rattle.scop_reader.specs.Lines.{Rest, behind_silent, words_of, word_bytes}

@@ -1,6 +1,6 @@
 use Rattle.std.proofs.Common.{◌≡◌, ℕ, ◌++◌, true, drop}
 use Rattle.std.specs.Prelude.{All}
-use Rattle.scop_core.specs.SolvedRows.{HasAccessRelation}
+use Rattle.scop_data.specs.SolvedRows.{HasAccessRelation}
 use Rattle.scop_core.specs.Assembly.{are_solved, solved_accesses, HasInputs}
 use Rattle.scop_core.proofs.assembling.accesses_from.Given as goal
 

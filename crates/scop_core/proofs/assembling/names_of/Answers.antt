@@ -1,6 +1,6 @@
 use Rattle.std.proofs.Common.{arith}
 use Rattle.scop_core.proofs.Assemblies.{names_more}
-use Rattle.scop_core.proofs.SolvedForms.{more_one}
+use Rattle.schedule_forms.proofs.SolvedForms.{more_one}
 use Rattle.scop_core.proofs.assembling.names_of.Goals as goal
 
 pub loop-k-preserved : goal.loop-k-preserved

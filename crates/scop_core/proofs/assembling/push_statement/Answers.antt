@@ -1,5 +1,5 @@
 use Rattle.std.proofs.lemmas.List.Elements.{All-push}
-use Rattle.scop_core.specs.Validity.{HasRelations}
+use Rattle.scop_data.specs.SolvedData.{HasRelations}
 use Rattle.scop_core.proofs.assembling.push_statement.Goals as goal
 
 pub returns-clause-printable : goal.returns-clause-printable

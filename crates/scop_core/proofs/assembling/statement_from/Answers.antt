@@ -1,5 +1,5 @@
 use Rattle.std.proofs.Common.{◌∙◌}
-use Rattle.scop_core.proofs.SolvedShapes.{both}
+use Rattle.schedule_forms.proofs.SolvedShapes.{both}
 use Rattle.scop_core.proofs.Assemblies.{statement_fits}
 use Rattle.scop_core.proofs.assembling.statement_from.Goals as goal
 

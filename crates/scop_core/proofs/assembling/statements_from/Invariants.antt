@@ -1,7 +1,7 @@
 use Rattle.std.proofs.Common.{◌≡◌, ℕ, ◌+◌, ◌++◌, None, drop}
 use Rattle.std.specs.Prelude.{All}
 use Rattle.scop_core.specs.Assembly.{first_unsolved, solved_statements, HasShapes}
-use Rattle.scop_core.specs.Validity.{HasRelations}
+use Rattle.scop_data.specs.SolvedData.{HasRelations}
 use Rattle.scop_core.proofs.assembling.statements_from.Given as goal
 
 abbrev pub invariant-loop-k : goal.invariant-loop-k

@@ -1,7 +1,7 @@
 use Rattle.std.proofs.Common.{arith}
 use Rattle.std.specs.Prelude.{All, List}
 use Rattle.relation_core.specs.Systems.{System}
-use Rattle.scop_core.specs.declared.accesses.AccessKind.{AccessKind}
+use Rattle.scop_data.specs.declared.accesses.AccessKind.{AccessKind}
 use Rattle.scop_core.specs.Held.{IsFormed}
 use Rattle.scop_core.proofs.HeldPieces.{one_more, all_before}
 use Rattle.scop_core.proofs.held.accesses_are_formed.Goals as goal

@@ -1,0 +1,10 @@
+use Rattle.std.proofs.Common.{◌≡◌, ◌+◌, ◌≤◌, drop}
+use Rattle.std.specs.Prelude.{count_by}
+use Rattle.schedule_forms.specs.SolvedForm.{is_high_row}
+use Rattle.schedule_forms.proofs.row_values.high_rows.Given as goal
+
+abbrev pub invariant-loop-i : goal.invariant-loop-i
+invariant-loop-i l = record {
+  counted : l.count + count_by (is_high_row l.shape l.k) (drop l.i l.part.rows) ≡ count_by (is_high_row l.shape l.k) l.part.rows;
+  within : l.count ≤ l.i;
+}

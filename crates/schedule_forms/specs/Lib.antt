@@ -1,0 +1,2 @@
+pub mod SolvedForm
+pub mod SolvedLaws

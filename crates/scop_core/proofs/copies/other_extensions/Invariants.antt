@@ -1,6 +1,0 @@
-use Rattle.std.proofs.Common.{◌≡◌, ◌++◌, drop}
-use Rattle.scop_core.specs.ScopData.{others}
-use Rattle.scop_core.proofs.copies.other_extensions.Given as goal
-
-abbrev pub invariant-loop-item : goal.invariant-loop-item
-invariant-loop-item l = l.made ++ others l.name (drop l.item-index l.items) ≡ others l.name l.items

@@ -1,5 +1,0 @@
-use Rattle.scop_core.proofs.Orders.{before_irreflexive}
-use Rattle.scop_core.proofs.laws.before_is_irreflexive.Goals as goal
-
-pub returns : goal.returns
-returns c = before_irreflexive

@@ -1,5 +1,0 @@
-use Rattle.scop_core.proofs.Floors.{floor_greatest}
-use Rattle.scop_core.proofs.laws.floor_is_greatest.Goals as goal
-
-pub returns : goal.returns
-returns c = floor_greatest

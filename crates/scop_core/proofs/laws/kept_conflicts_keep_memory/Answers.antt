@@ -1,5 +1,0 @@
-use Rattle.scop_core.proofs.RunLaws.{kept_conflicts}
-use Rattle.scop_core.proofs.laws.kept_conflicts_keep_memory.Goals as goal
-
-pub returns : goal.returns
-returns c = kept_conflicts

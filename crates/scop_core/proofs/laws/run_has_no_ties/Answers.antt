@@ -1,5 +1,0 @@
-use Rattle.scop_core.proofs.RunLaws.{no_ties}
-use Rattle.scop_core.proofs.laws.run_has_no_ties.Goals as goal
-
-pub returns : goal.returns
-returns c = no_ties

@@ -1,5 +1,0 @@
-use Rattle.scop_core.proofs.SolvedMeanings.{access_means}
-use Rattle.scop_core.proofs.laws.solved_access_means_its_relation.Goals as goal
-
-pub returns : goal.returns
-returns c = access_means

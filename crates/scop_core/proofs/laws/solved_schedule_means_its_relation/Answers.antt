@@ -1,5 +1,0 @@
-use Rattle.scop_core.proofs.SolvedMeanings.{schedule_means}
-use Rattle.scop_core.proofs.laws.solved_schedule_means_its_relation.Goals as goal
-
-pub returns : goal.returns
-returns c = schedule_means

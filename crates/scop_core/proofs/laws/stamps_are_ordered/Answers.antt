@@ -1,5 +1,0 @@
-use Rattle.scop_core.proofs.Stamps.{stamps_ordered}
-use Rattle.scop_core.proofs.laws.stamps_are_ordered.Goals as goal
-
-pub returns : goal.returns
-returns c = stamps_ordered

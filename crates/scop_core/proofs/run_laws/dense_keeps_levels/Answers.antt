@@ -1,5 +1,0 @@
-use Rattle.scop_core.proofs.DenseOrders.{dense_keeps_levels}
-use Rattle.scop_core.proofs.run_laws.dense_keeps_levels.Goals as goal
-
-pub returns : goal.returns
-returns c = dense_keeps_levels

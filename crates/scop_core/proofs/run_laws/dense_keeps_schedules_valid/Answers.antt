@@ -1,5 +1,0 @@
-use Rattle.scop_core.proofs.DenseRuns.{dense_keeps_schedules_valid}
-use Rattle.scop_core.proofs.run_laws.dense_keeps_schedules_valid.Goals as goal
-
-pub returns : goal.returns
-returns c = dense_keeps_schedules_valid

@@ -1,5 +1,0 @@
-use Rattle.scop_core.proofs.DenseRuns.{dense_vectors_are_theirs}
-use Rattle.scop_core.proofs.run_laws.dense_vectors_are_theirs.Goals as goal
-
-pub returns : goal.returns
-returns c = dense_vectors_are_theirs

@@ -1,5 +1,0 @@
-use Rattle.scop_core.proofs.DenseRuns.{kept_meaning_has_same_runs}
-use Rattle.scop_core.proofs.run_laws.kept_meaning_has_same_runs.Goals as goal
-
-pub returns : goal.returns
-returns c = kept_meaning_has_same_runs

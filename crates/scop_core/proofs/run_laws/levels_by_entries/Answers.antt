@@ -1,5 +1,0 @@
-use Rattle.scop_core.proofs.LevelOrder.{levels_by_entries}
-use Rattle.scop_core.proofs.run_laws.levels_by_entries.Goals as goal
-
-pub returns : goal.returns
-returns c = levels_by_entries

@@ -1,5 +1,0 @@
-use Rattle.scop_core.proofs.LevelOrder.{loops_are_common}
-use Rattle.scop_core.proofs.run_laws.loops_are_common.Goals as goal
-
-pub returns : goal.returns
-returns c = loops_are_common

@@ -1,5 +1,0 @@
-use Rattle.scop_core.proofs.MappedRuns.{mapped_run_exists}
-use Rattle.scop_core.proofs.run_laws.mapped_run_exists.Goals as goal
-
-pub returns : goal.returns
-returns c = mapped_run_exists

@@ -1,5 +1,0 @@
-use Rattle.scop_core.proofs.MappedRuns.{nothing_reversed_keeps_memory}
-use Rattle.scop_core.proofs.run_laws.nothing_reversed_keeps_memory.Goals as goal
-
-pub returns : goal.returns
-returns c = nothing_reversed_keeps_memory

@@ -1,5 +1,0 @@
-use Rattle.scop_core.proofs.RunOrders.{precedes_is_earlier}
-use Rattle.scop_core.proofs.run_laws.precedes_is_before.Goals as goal
-
-pub returns : goal.returns
-returns c = precedes_is_earlier

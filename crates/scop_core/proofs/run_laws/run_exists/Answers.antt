@@ -1,5 +1,0 @@
-use Rattle.scop_core.proofs.RunOrders.{run_exists}
-use Rattle.scop_core.proofs.run_laws.run_exists.Goals as goal
-
-pub returns : goal.returns
-returns c = run_exists

@@ -1,5 +1,0 @@
-use Rattle.scop_core.proofs.LevelOrder.{schedules_order_at_a_level}
-use Rattle.scop_core.proofs.run_laws.schedules_order_at_a_level.Goals as goal
-
-pub returns : goal.returns
-returns c = schedules_order_at_a_level

@@ -1,5 +1,0 @@
-use Rattle.scop_core.proofs.AlikeRuns.{statements_mean_all}
-use Rattle.scop_core.proofs.run_laws.statements_mean_all.Goals as goal
-
-pub returns : goal.returns
-returns c = statements_mean_all

@@ -1,7 +1,0 @@
-use Rattle.std.proofs.Common.{arith}
-use Rattle.scop_core.specs.SolvedForm.{has_output}
-use Rattle.scop_core.proofs.SolvedShapes.{each_at}
-use Rattle.scop_core.proofs.solved_forms.access_with.Goals as goal
-
-pub value_of-requires-clause-given : goal.value_of-requires-clause-given
-value_of-requires-clause-given c = each_at (has_output c.args.part.now) c.args.part.now.shape.outputs 0 (omega arith) c.requires.given

@@ -1,7 +1,0 @@
-use Rattle.std.proofs.Common.{◌*◌, arith}
-use Rattle.scop_core.specs.SolvedForm.{has_output}
-use Rattle.scop_core.proofs.SolvedShapes.{each_at}
-use Rattle.scop_core.proofs.solved_forms.has_constants.Goals as goal
-
-pub has_constant-requires-clause-given : goal.has_constant-requires-clause-given
-has_constant-requires-clause-given c = each_at (has_output c.args.part.now) c.args.part.now.shape.outputs (2 * c.loop-k.k) (omega arith) c.requires.given

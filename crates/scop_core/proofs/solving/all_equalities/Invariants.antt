@@ -1,6 +1,0 @@
-use Rattle.std.proofs.Common.{◌≡◌, drop}
-use Rattle.scop_core.specs.SolvedForm.{are_equalities}
-use Rattle.scop_core.proofs.solving.all_equalities.Given as goal
-
-abbrev pub invariant-loop-i : goal.invariant-loop-i
-invariant-loop-i l = are_equalities (drop l.i l.part.rows) ≡ are_equalities l.part.rows

@@ -1,0 +1,15 @@
+pub mod AffineSums
+pub mod DenseBetas
+pub mod Layouts
+pub mod LevelOrder
+pub mod MappedRuns
+pub mod Meaning
+pub mod Memory
+pub mod Order
+pub mod Pieces
+pub mod RunLaws
+pub mod ScopData
+pub mod Sequences
+pub mod SolvedData
+pub mod SolvedRows
+pub mod Theorems
