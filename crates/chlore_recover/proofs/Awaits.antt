@@ -57,7 +57,7 @@ one_loop r q (x ∷ v) ne h =
 abbrev leveled_where : List Command → Leaf → Bool → Leaf
 leveled_where script leaf u = if u then record leaf { statement = scheduled leaf.statement (forms_along script leaf.statement.schedule) } else leaf
 
-leveled_beta : (script : List Command) (P : List ℕ) (leaf : Leaf) → (leveled script P leaf).beta ≡ leaf.beta
+pub leveled_beta : (script : List Command) (P : List ℕ) (leaf : Leaf) → (leveled script P leaf).beta ≡ leaf.beta
 leveled_beta script P leaf = elim (is_under P leaf.beta) as (λ u. (leveled_where script leaf u).beta ≡ leaf.beta) [ true ↦ refl | false ↦ refl ]
 
 pub leveled_betas : (script : List Command) (P : List ℕ) (D : Draft) → betas_of (map (leveled script P) D) ≡ betas_of D

@@ -29,7 +29,7 @@ distinct_of (k ∷ ks) h =
       | false ↦ λ e g. distinct-cons eqb eqb-true same_yes k ks e (distinct_of ks g)
     ] refl h
 
-has_all_from : (n : ℕ) (ks : List ℕ) → ((k : ℕ) → k < n → list_any (eqb k) ks ≡ true) → has_all_below n ks ≡ true
+pub has_all_from : (n : ℕ) (ks : List ℕ) → ((k : ℕ) → k < n → list_any (eqb k) ks ≡ true) → has_all_below n ks ≡ true
 has_all_from zero ks h = refl
 has_all_from (suc n) ks h = rw (h n (omega arith)) (has_all_from n ks (λ k l. h k (omega arith)))
 

@@ -27,7 +27,7 @@ use Rattle.chlore_recover.proofs.Interchanges.{interchanges_run}
 use Rattle.chlore_recover.proofs.Triangulars.{skews_run}
 use Rattle.chlore_recover.proofs.Shifts.{bare, shifts_run}
 
-clans_long : (n k d : ℕ) (levels : List Affine) → AreClansFrom n k d levels → k + length levels ≡ d
+pub clans_long : (n k d : ℕ) (levels : List Affine) → AreClansFrom n k d levels → k + length levels ≡ d
 clans_long n k d [] e = omega arith
 clans_long n k d (form ∷ levels) (h, c) = let e = clans_long n (k + 1) d levels c in omega arith
 

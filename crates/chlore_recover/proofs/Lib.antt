@@ -1,5 +1,6 @@
 mod Checks
 mod Scripts
+mod Rows
 pub mod Ends
 pub mod Factors
 pub mod Plains
@@ -20,3 +21,11 @@ pub mod Leveled
 pub mod Taken
 pub mod Rises
 pub mod Awaits
+pub mod Stands
+pub mod Trailed
+pub mod Ranks
+pub mod Pairs
+pub mod Seats
+pub mod Moves
+pub mod Assembly
+pub mod Recoveries

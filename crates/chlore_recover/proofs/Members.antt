@@ -63,7 +63,7 @@ children_same P V W d s =
     (λ x h. let (w, i) = child_exists P x W d h in child_of_prefix P x w V (s.back (P ++ x ∷ w) i))
     (λ x i. let (w, j) = vector_of_child P x V i in child_below P x w W d (s.there (P ++ x ∷ w) j))
 
-map_same : (f : List ℕ → List ℕ) (V W : List (List ℕ)) → HaveSame V W → HaveSame (map f V) (map f W)
+pub map_same : (f : List ℕ → List ℕ) (V W : List (List ℕ)) → HaveSame V W → HaveSame (map f V) (map f W)
 map_same f V W s = record {
   there = λ v i. let (u, j, e) = from_In-map f v V i in subst (λ z. In z (map f W)) e (In-map f u W (s.there u j));
   back = λ v i. let (u, j, e) = from_In-map f v W i in subst (λ z. In z (map f V)) e (In-map f u V (s.back u j));
@@ -157,7 +157,7 @@ led_draft command D W is each =
     maps_to (λ leaf. with_beta (vector_after command W leaf.beta) leaf) (leaf_after command (betas_of D)) D
     (λ leaf. vector_leaf command (betas_of D) leaf is ∙ ap (λ v. with_beta v leaf ∷ []) (each leaf.beta))
 
-led_betas : (g : List ℕ → List ℕ) (D : Draft) → betas_of (map (λ leaf. with_beta (g leaf.beta) leaf) D) ≡ map g (betas_of D)
+pub led_betas : (g : List ℕ → List ℕ) (D : Draft) → betas_of (map (λ leaf. with_beta (g leaf.beta) leaf) D) ≡ map g (betas_of D)
 led_betas g [] = refl
 led_betas g (leaf ∷ D) = ap (λ t. g leaf.beta ∷ t) (led_betas g D)
 

@@ -8,3 +8,4 @@ pub mod Splits
 pub mod Drafted
 pub mod Orders
 pub mod Laws
+pub mod Recovered

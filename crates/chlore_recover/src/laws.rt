@@ -2,6 +2,7 @@
 
 ghost use Rattle.chlore_recover.specs.Drafted.{AllLevelsAreLed, LeavesAreLed, LevelScriptIsTaken, LevelsAreLed};
 ghost use Rattle.chlore_recover.specs.Orders.{OrderedRises};
+ghost use Rattle.chlore_recover.specs.Recovered.{StrategyRecovers};
 ghost use Rattle.chlore_recover.specs.Splits.{FissionsLead, FusesLead, LeastIsFirst, ReorderLeads, SplitsLeaveAlone};
 ghost use Rattle.chlore_recover.specs.Laws.{ApartIsFactored, FactoredIsApart, ScriptRecoversLevels, SuitedIsUnrefused};
 
@@ -73,4 +74,11 @@ pub fn ordered_rises()
 /// The scripts for the levels of statements that stand alone are accepted one after the other, and each changes its own statement.
 pub fn all_levels_are_led()
     ensures { AllLevelsAreLed }
+{}
+
+/// For two SCoPs with as many statements, parameters and iterators, the first in Clan's form, the second
+/// recoverable, no command of the script is refused for the first one, and at all integers the script gives
+/// each statement the second one's dense stamp. The script may be longer than one that is read or printed.
+pub fn strategy_recovers()
+    ensures { StrategyRecovers }
 {}
