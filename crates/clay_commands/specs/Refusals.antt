@@ -2,6 +2,7 @@
 use Rattle.std.specs.Prelude.{ℤ, pos, ℕ, ◌+◌, ◌-◌, ◌^◌, ◌==◌, nat_le, int_le, Bool, true, not, ◌&&◌, ◌||◌, if◌then◌else◌, Option, Some, None, Result, Ok, Err, List, [], ◌∷◌, length, max, unsigned_abs, map, is_none}
 use Rattle.std.specs.List.{list_any}
 use Rattle.std.specs.Ordering.{int_eq}
+use Rattle.suite_base.specs.Limits.{max_statements, max_levels, max_locals, max_rows}
 use Rattle.suite_base.specs.declared.refusals.Refusal.{Refusal}
 use Rattle.suite_base.specs.declared.refusals.Refusal.TheVariants as refusal
 use Rattle.suite_base.specs.declared.refusals.Which.TheVariants.{Statements, Levels, Locals, Rows}
@@ -75,22 +76,22 @@ condition_of parameters i command D =
     if not (are_natural (prefix_of command)) || no_statement (prefix_in command) (betas_of D) then Some (refusal.NoBeta i)
     else condition_under parameters i command (prefix_in command) D
 
--- some part of a statement's domain has 256 rows
+-- some part of a statement's domain has as many rows as a part may have
 abbrev pub has_full_part : Statement → Bool
-has_full_part statement = list_any (λ part. nat_le 256 (length part.rows)) statement.domain
+has_full_part statement = list_any (λ part. nat_le max_rows (length part.rows)) statement.domain
 
--- the limit that one more level and floor pass in a statement under P: a 25th level of any, then a 25th floor of any
+-- the limit that one more level and floor pass in a statement under P: a level too many of any, then a floor too many of any
 abbrev pub cut_limit : ℕ → List ℕ → Draft → Option Refusal
 cut_limit i P D =
-    if nat_le 24 (most_under P (λ s. length s.schedule.levels) D) then Some (refusal.Limit Levels i)
-    else (if nat_le 24 (most_under P (λ s. length s.schedule.floors) D) then Some (refusal.Limit Locals i) else None)
+    if nat_le max_levels (most_under P (λ s. length s.schedule.levels) D) then Some (refusal.Limit Levels i)
+    else (if nat_le max_locals (most_under P (λ s. length s.schedule.floors) D) then Some (refusal.Limit Locals i) else None)
 
 -- the limit that command number i passes
 abbrev pub limit_of : ℕ → Command → Draft → Option Refusal
 limit_of i (Stripmine p k s) D = cut_limit i (map natural p) D
 limit_of i (Tile p k s t) D = cut_limit i (map natural p) D
 limit_of i (Iss p xs ns c) D =
-    if nat_le 1024 (length D) then Some (refusal.Limit Statements i)
+    if nat_le max_statements (length D) then Some (refusal.Limit Statements i)
     else (if not (all_under (map natural p) (λ s. not (has_full_part s)) D) then Some (refusal.Limit Rows i) else None)
 limit_of i other D = None
 

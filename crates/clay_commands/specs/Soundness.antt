@@ -1,5 +1,6 @@
 -- What holds of the leaves between two commands of a script that is not refused: closed, they are statements of a SCoP.
 use Rattle.std.specs.Prelude.{ℕ, ◌≡◌, ◌≤◌, ◌<◌, ◌^◌, unsigned_abs, true, None, List, length, All}
+use Rattle.suite_base.specs.Limits.{max_statements}
 use Rattle.scop_data.specs.declared.statements.Statement.{Statement}
 use Rattle.scop_data.specs.declared.raw_pieces.RawStatement.{RawStatement}
 use Rattle.scop_core.specs.ReadBack.{statement_pieces}
@@ -24,7 +25,7 @@ pub record IsSoundLeaf (parameters : ℕ) (leaf : Leaf) : Type 0 where
 -- each leaf is such, and there are no more than statements of a SCoP
 pub record IsSound (parameters : ℕ) (D : Draft) : Type 0 where
   pub leaves : All (IsSoundLeaf parameters) D
-  pub few : length D ≤ 1024
+  pub few : length D ≤ max_statements
 
 -- command number i, whose prefix has statements, is not refused, and makes of the leaves D the leaves E, which have the vectors V
 pub record IsStep (parameters i : ℕ) (command : Command) (D E : Draft) (V : List (List ℕ)) : Type 0 where

@@ -13,7 +13,7 @@ use crate::leaves::Leaf;
 use clay_script::Command;
 use row_core::Coeff;
 use scop_core::Statement;
-use suite_base::{Refusal, Which};
+use suite_base::{MAX_LEVELS, MAX_LOCALS, MAX_ROWS, MAX_STATEMENTS, Refusal, Which};
 
 /// Whether some statement is under the prefix.
 pub fn has_statement(prefix: &[u32], leaves: &[Leaf]) -> bool
@@ -182,29 +182,29 @@ fn most_floors(prefix: &[u32], leaves: &[Leaf]) -> usize
 pub fn strip_limit(i: u32, prefix: &[u32], leaves: &[Leaf]) -> Option<Refusal>
     ensures { result ≡ cut_limit i prefix.now leaves.now }
 {
-    if most_levels(prefix, leaves) >= 24 {
+    if most_levels(prefix, leaves) >= MAX_LEVELS {
         return Some(Refusal::Limit(Which::Levels, i));
     }
-    if most_floors(prefix, leaves) >= 24 {
+    if most_floors(prefix, leaves) >= MAX_LOCALS {
         return Some(Refusal::Limit(Which::Locals, i));
     }
     None
 }
 
-// Whether some part of the statement's domain has 256 rows.
+// Whether some part of the statement's domain has as many rows as a part may have.
 fn has_full_part(statement: &Statement) -> bool
     ensures { result ≡ has_full statement.now }
 {
     let parts = statement.domain.parts();
     for part in parts {
-        if part.row_count() >= 256 {
+        if part.row_count() >= MAX_ROWS {
             return true;
         }
     }
     false
 }
 
-// Whether no part of the domain of a statement under the prefix has 256 rows.
+// Whether each part of the domain of a statement under the prefix has room for one more row.
 fn have_room(prefix: &[u32], leaves: &[Leaf]) -> bool
     ensures { result ≡ all_under prefix.now (λ s. not (has_full s)) leaves.now }
 {
@@ -221,7 +221,7 @@ pub fn split_limit(i: u32, command: &Command, prefix: &[u32], leaves: &[Leaf]) -
     requires { IsSplit command.now prefix.now }
     ensures { result ≡ limit_of i command.now leaves.now }
 {
-    if leaves.len() >= 1024 {
+    if leaves.len() >= MAX_STATEMENTS {
         return Some(Refusal::Limit(Which::Statements, i));
     }
     if !have_room(prefix, leaves) {

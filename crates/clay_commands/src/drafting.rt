@@ -2,6 +2,7 @@
 
 ghost use Rattle.std.specs.Prelude.{◌≡◌, ◌<◌, ◌≤◌, ◌^◌, ◌+◌, [], ◌∷◌, ◌++◌, length, map, pos, All, IfOk, OnOk};
 ghost use Rattle.std.proofs.Common.{get_or};
+ghost use Rattle.suite_base.specs.Limits.{max_statements};
 ghost use Rattle.row_core.specs.Dense.{dense_of};
 ghost use Rattle.scop_core.specs.ScopData.{betas_in};
 ghost use Rattle.clay_commands.specs.Afters.{closed_leaf};
@@ -77,7 +78,7 @@ fn push_leaf(
 /// The statements with their vectors, numbered from 1.
 pub fn draft(alloc: Global, betas: &Betas, statements: &[Statement]) -> Result<Vec<Leaf>, NoMemory>
     requires all { length betas.now ≡ length statements.now }
-    requires few { length statements.now ≤ 1024 }
+    requires few { length statements.now ≤ max_statements }
     ensures { IfOk result (λ leaves. leaves.items ≡ leaves_from 1 betas.now statements.now) }
 {
     let mut leaves = Vec::new(alloc);
