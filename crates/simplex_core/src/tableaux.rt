@@ -1,0 +1,185 @@
+//! The tableau: a matrix whose rows and columns have variables. Behind the columns of variables stand the
+//! constants and the denominators.
+
+ghost use Rattle.std.specs.Prelude.{◌≡◌, ◌<◌, ◌+◌, length, OnSome};
+
+use crate::divisors::gcd;
+use crate::matrices::Matrix;
+use std::marker::Model;
+
+/// A variable of the tableau.
+#[derive(Clone, Copy, Debug, PartialEq, Eq)]
+pub enum Variable {
+    /// The variable of this column of the system, which is free.
+    Free(usize),
+    /// The value of this row of the system, an equality, which is 0.
+    Zero(usize),
+    /// The value of this row of the system, an inequality, which is at least 0.
+    AtLeastZero(usize),
+}
+
+/// The tableau. Contracts see the numbers of its rows and columns.
+#[derive(Drop)]
+pub struct Tableau {
+    cells: Matrix,
+    rows: Vec<Variable>,
+    columns: Vec<Variable>,
+}
+
+impl Model for Tableau {
+    ghost use Rattle.std.specs.Prelude.{◌≡◌, ◌+◌, length};
+    ghost use Rattle.simplex_core.specs.Sizes.{Size};
+
+    ghost Value = { Size };
+
+    ghost view = { λ t. record { rows = length t.rows.items; columns = length t.columns.items } };
+
+    ghost invariant = { λ t. t.cells ≡ record { rows = length t.rows.items; columns = length t.columns.items + 2 } };
+}
+
+impl Tableau {
+    /// The tableau of these cells and variables.
+    pub fn new(cells: Matrix, rows: Vec<Variable>, columns: Vec<Variable>) -> Tableau
+        requires { cells ≡ record { rows = length rows.items; columns = length columns.items + 2 } }
+        ensures { result ≡ record { rows = length rows.items; columns = length columns.items } }
+    {
+        Tableau {
+            cells,
+            rows,
+            columns,
+        }
+    }
+
+    /// The number of rows.
+    pub fn row_count(&self) -> usize
+        ensures { result ≡ self.now.rows }
+    {
+        self.rows.len()
+    }
+
+    /// The number of columns that have variables.
+    pub fn column_count(&self) -> usize
+        ensures { result ≡ self.now.columns }
+    {
+        self.columns.len()
+    }
+
+    /// The variable of row `i`.
+    pub fn row_variable(&self, i: usize) -> Variable
+        requires { i < self.now.rows }
+    {
+        self.rows[i]
+    }
+
+    /// The variable of column `j`.
+    pub fn column_variable(&self, j: usize) -> Variable
+        requires { j < self.now.columns }
+    {
+        self.columns[j]
+    }
+
+    /// The cell of row `i` in column `j`.
+    pub fn cell(&self, i: usize, j: usize) -> i64
+        requires row { i < self.now.rows }
+        requires column { j < self.now.columns }
+    {
+        self.cells.at(i, j)
+    }
+
+    /// The constant of row `i`.
+    pub fn constant(&self, i: usize) -> i64
+        requires { i < self.now.rows }
+    {
+        self.cells.at(i, self.columns.len())
+    }
+
+    /// The denominator of row `i`, which is positive.
+    pub fn denominator(&self, i: usize) -> i64
+        requires { i < self.now.rows }
+    {
+        self.cells.at(i, self.columns.len() + 1)
+    }
+
+    /// Exchanges the variables of row `r` and column `c`, whose cell is not 0. `None` where a cell passes
+    /// 64 bits; the search then ends.
+    pub fn pivot(&mut self, r: usize, c: usize) -> Option<()>
+        requires row { r < self.old.rows }
+        requires column { c < self.old.columns }
+        ensures { self.new ≡ self.old }
+    {
+        self.solve_for(r, c)?;
+        for i in 0..self.row_count() {
+            if i != r {
+                self.replace(i, r, c)?;
+            }
+        }
+        self.exchange(r, c);
+        Some(())
+    }
+
+    // Solves row `r` for the variable of column `c`.
+    fn solve_for(&mut self, r: usize, c: usize) -> Option<()>
+        requires row { r < self.old.rows }
+        requires column { c < self.old.columns }
+        ensures { self.new ≡ self.old }
+    {
+        let constant = self.columns.len();
+        let pivot = self.cells.at(r, c);
+        let denominator = self.cells.at(r, constant + 1);
+        let cell = if pivot < 0 {
+            denominator.checked_neg()?
+        } else {
+            self.cells.negate(r, constant + 1)?;
+            denominator
+        };
+        self.cells.set(r, c, cell);
+        self.cells.set(r, constant + 1, pivot.checked_abs()?);
+        Some(())
+    }
+
+    // Puts what row `r` says of the variable of column `c` into row `i`.
+    fn replace(&mut self, i: usize, r: usize, c: usize) -> Option<()>
+        requires row { i < self.old.rows }
+        requires other { r < self.old.rows }
+        requires column { c < self.old.columns }
+        ensures { self.new ≡ self.old }
+    {
+        let last = self.columns.len() + 1;
+        let factor = self.cells.at(i, c);
+        if factor == 0 {
+            return Some(());
+        }
+        let denominator = self.cells.at(r, last);
+        let (f, h) = lowest_terms(denominator, factor)?;
+        self.cells.set(i, c, 0);
+        if f == 1 && self.cells.at(i, last) == 1 {
+            self.cells.add_multiple(i, h, r)
+        } else {
+            self.cells.combine(f, i, h, r)
+        }
+    }
+
+    // Exchanges the names of row `r` and column `c`.
+    fn exchange(&mut self, r: usize, c: usize)
+        requires row { r < self.old.rows }
+        requires column { c < self.old.columns }
+        ensures { self.new ≡ self.old }
+    {
+        let leaving = self.rows[r];
+        self.rows[r] = self.columns[c];
+        self.columns[c] = leaving;
+    }
+}
+
+// Both numbers divided by their greatest common divisor.
+fn lowest_terms(a: i64, b: i64) -> Option<(i64, i64)> {
+    if a == 1 {
+        return Some((a, b));
+    }
+    let divisor = gcd(a.unsigned_abs(), b.unsigned_abs());
+    if divisor >= 1 << 63 {
+        return None;
+    }
+    let divisor = divisor as i64;
+    Some((a.checked_div(divisor)?, b.checked_div(divisor)?))
+}
