@@ -7,20 +7,39 @@ ghost use Rattle.elim_core.specs.Peaks.{peak, IsRight};
 ghost use Rattle.elim_core.specs.Reductions.{BeginsWith, Settles};
 
 use crate::counts::{row_count, variable_count};
-use crate::decisions::decide_by;
+use crate::decisions::decide_by_elimination;
 use crate::orders::column_order;
 use crate::phases::from_rows;
 use crate::reductions::Reduced;
+use crate::searches::search_checked;
 use crate::verdicts::{ElimFail, Verdict};
 use farkas_cert::{Certificate, check};
 use relation_core::Part;
 use row_core::Row;
 use std::alloc::Global;
 
-/// Decides `system` as `decide_by` does, but begins with the reduced rows of its first rows. The
-/// system has the base's shape, and its rows begin with the base's. Where this way passes 2^127 - 1
-/// or 16,384 rows, it falls back to the stated elimination of the whole system.
+/// Decides `system` as `decide_by` does, but its elimination begins with the reduced rows of its first
+/// rows. The system has the base's shape, and its rows begin with the base's. Where this way passes
+/// 2^127 - 1 or 16,384 rows, it falls back to the stated elimination of the whole system.
 pub fn decide_with<R: Row>(
+    alloc: Global,
+    shared: &Reduced<R>,
+    system: &Part,
+) -> Result<Verdict, ElimFail>
+    requires { BeginsWith system.now shared.now }
+    ensures right { IfOk result (λ verdict. IsRight system.now verdict) }
+    ensures overflow { IfErr result (λ fail. fail ≡ ElimFail.Overflow → 2 ^ 127 ≤ (peak system.now).weight) }
+    ensures rows { IfErr result (λ fail. fail ≡ ElimFail.TooManyRows → 16384 < (peak system.now).rows) }
+{
+    match search_checked(alloc, system) {
+        Err(_) => Err(ElimFail::Memory),
+        Ok(Some(verdict)) => Ok(verdict),
+        Ok(None) => decide_from_base(alloc, shared, system),
+    }
+}
+
+// Decides `system` by the elimination that begins with the reduced rows.
+fn decide_from_base<R: Row>(
     alloc: Global,
     shared: &Reduced<R>,
     system: &Part,
@@ -34,7 +53,7 @@ pub fn decide_with<R: Row>(
         Ok(None) => Ok(Verdict::HasPoint),
         Ok(Some(certificate)) => accept::<R>(alloc, system, certificate),
         Err(ElimFail::Memory) => Err(ElimFail::Memory),
-        Err(_) => decide_by::<R>(alloc, system),
+        Err(_) => decide_by_elimination::<R>(alloc, system),
     }
 }
 
@@ -51,7 +70,7 @@ fn accept<R: Row>(
 {
     match check(system, &certificate) {
         Ok(_) => Ok(Verdict::Empty(certificate)),
-        Err(_) => decide_by::<R>(alloc, system),
+        Err(_) => decide_by_elimination::<R>(alloc, system),
     }
 }
 

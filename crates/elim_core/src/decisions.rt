@@ -10,6 +10,7 @@ ghost use Rattle.elim_core.specs.Peaks.{column_order, stated, peak, IsRight};
 use crate::counts::{row_count, variable_count};
 use crate::orders::column_order;
 use crate::phases::from_rows;
+use crate::searches::search_checked;
 use crate::starts::start;
 use crate::verdicts::{ElimFail, Verdict};
 use farkas_cert::{Certificate, TooHeavy, check};
@@ -27,11 +28,25 @@ pub fn decide(alloc: Global, system: &Part) -> Result<Verdict, ElimFail>
 }
 
 /// Decides whether integers and a factor of at least 1 for the constants meet every row of
-/// `system`, by the stated elimination over rows of representation `R`. `HasPoint` comes only where
-/// they exist. `Empty` comes only where none do, with a valid certificate for which `check` answers
-/// true. `Overflow` comes only where the weight of the system's peak passes 2^127 - 1, and
-/// `TooManyRows` only where its row count passes 16,384.
+/// `system`: by the simplex method, whose answer is checked, and where that finds none, by the stated
+/// elimination over rows of representation `R`. `HasPoint` comes only where they exist. `Empty` comes
+/// only where none do, with a valid certificate for which `check` answers true. `Overflow` comes only
+/// where the weight of the system's peak passes 2^127 - 1, and `TooManyRows` only where its row count
+/// passes 16,384.
 pub fn decide_by<R: Row>(alloc: Global, system: &Part) -> Result<Verdict, ElimFail>
+    ensures right { IfOk result (λ verdict. IsRight system.now verdict) }
+    ensures overflow { IfErr result (λ fail. fail ≡ ElimFail.Overflow → 2 ^ 127 ≤ (peak system.now).weight) }
+    ensures rows { IfErr result (λ fail. fail ≡ ElimFail.TooManyRows → 16384 < (peak system.now).rows) }
+{
+    match search_checked(alloc, system) {
+        Err(_) => Err(ElimFail::Memory),
+        Ok(Some(verdict)) => Ok(verdict),
+        Ok(None) => decide_by_elimination::<R>(alloc, system),
+    }
+}
+
+/// Decides `system` by the stated elimination alone, as `decide_by` does.
+pub fn decide_by_elimination<R: Row>(alloc: Global, system: &Part) -> Result<Verdict, ElimFail>
     ensures right { IfOk result (λ verdict. IsRight system.now verdict) }
     ensures overflow { IfErr result (λ fail. fail ≡ ElimFail.Overflow → 2 ^ 127 ≤ (peak system.now).weight) }
     ensures rows { IfErr result (λ fail. fail ≡ ElimFail.TooManyRows → 16384 < (peak system.now).rows) }

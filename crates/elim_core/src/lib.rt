@@ -1,4 +1,5 @@
-//! Exact rational emptiness of systems of rows, with a certificate for every empty one.
+//! Exact rational emptiness of systems of rows, with a certificate for every empty one: by the simplex
+//! method, whose answers are checked, and where that gives up, by Fourier-Motzkin elimination.
 #![tactic(auto)]
 
 mod continuations;
@@ -11,6 +12,7 @@ mod phases;
 mod projections;
 mod reductions;
 mod refutations;
+mod searches;
 mod signs;
 mod starts;
 mod substitutions;

@@ -3,7 +3,7 @@ use Rattle.relation_core.specs.Systems.{columns}
 use Rattle.elim_core.specs.Peaks.{column_order}
 use Rattle.elim_core.proofs.ColumnOrder.{order_covers, order_below}
 use Rattle.elim_core.proofs.Whole.{elimination_solved, elimination_refuted}
-use Rattle.elim_core.proofs.decisions.decide_by.Goals as goal
+use Rattle.elim_core.proofs.decisions.decide_by_elimination.Goals as goal
 
 pub confirm-requires-clause-valid : goal.confirm-requires-clause-valid
 confirm-requires-clause-valid g c =
