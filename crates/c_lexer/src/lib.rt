@@ -9,6 +9,7 @@ mod pragmas;
 mod regions;
 mod tokens;
 
+pub use cuts::gap;
 pub use lexers::Lexer;
 pub use pragmas::{Pragma, is_pragma, pragma_of};
 pub use regions::{RegionFail, Span, find_region};
