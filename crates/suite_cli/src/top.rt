@@ -14,12 +14,19 @@ use suite_base::{Files, Sink, Source, WordList};
 /// Runs the suite on the program's words: reads the files that they name, in the order of the words,
 /// does the work, writes the output to `out`, and for each outcome but `Done` one line to `err`.
 ///
-/// At `Done` under `clan` the file was the text of one loop, the layout of a SCoP was appended to
-/// `out`, and for every value of the parameter that SCoP has a run whose final memory is the memory
-/// after the C region; under `scop` the file was a text of a SCoP, and its layout was appended. What
-/// was appended is a text of that SCoP. What every other outcome tells is said by `Answers`; want of
-/// memory is the one free answer. `files` is as before where no file is named but standard input, and
-/// what it holds always is; `input` is as before where standard input is not named.
+/// What was appended to `out` at `Done` is, under
+/// - `clan`: the layout of a SCoP, where the file was the text of one loop. For every value of the parameter the SCoP has
+///   a run whose final memory is the memory after the C region.
+/// - `scop`: the layout of the SCoP in the file.
+/// - `candl`: the same with its block of dependence systems. For all parameter values in the context a pair of instances
+///   lies in a kept system exactly where it is a dependence.
+/// - `audit`: the line of the counts of the file's block, each entry of which is the one that the SCoP defines.
+/// - `clay`: the layout of the SCoP in the second file, edited by the script in the first one. For all parameter values in
+///   the context at which the old SCoP has a run, the edited one has one that ends with the same memory.
+///
+/// What every other outcome tells is said by `Answers`; want of memory is the one free answer. `files` is as before where
+/// no file is named but standard input, and what it holds always is; `input` is as before where standard input is not
+/// named.
 pub fn suite<F: Files, I: Source, O: Sink, E: Sink>(
     alloc: Global,
     words: &WordList,
