@@ -140,16 +140,9 @@ fn decide_entries(alloc: Global, scop: &Scop, edited: &Edited, list: &[Dep]) -> 
     Ok(Legal::Yes)
 }
 
-/// Decides whether a script keeps the order of all pairs of instances that touch, from what it makes
-/// of a SCoP: the violation systems are decided in order.
-///
-/// `Limit(Systems, 0)` comes exactly where the new statements have more than 65,536 dependences in the
-/// order of their originals, and before every other answer. `Yes` comes where no violation system has
-/// a rational point. `Illegal(k)` comes where violation system k, from 1, is the first with one.
-/// `Overflow(System, k)` and `TooManyRows(k)` come only where the peak of violation system k passes
-/// 2^127 - 1 or 16,384 rows, and none before it has a point. At `Yes`, where the edit keeps the
-/// instances, each run of the SCoP in context is joined by a run of the edited one with the same final
-/// memory.
+/// Decides whether an edit keeps the order of all pairs of instances that touch, with the answers of `check`. At `Yes`,
+/// where the edit keeps the instances, each run of the SCoP in context is joined by a run of the edited one with the same
+/// final memory.
 pub fn check_edit(alloc: Global, scop: &Scop, edited: &Edited) -> Result<Legal, Fail>
     requires edit { IsEdit (edit_of scop.now edited.now) }
     ensures answer { IsAnswer (edit_of scop.now edited.now) result }

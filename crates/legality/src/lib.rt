@@ -11,6 +11,5 @@ mod reversing;
 mod scripts;
 mod systems;
 
-pub use checking::check_edit;
 pub use legal::Legal;
 pub use scripts::check;

@@ -16,8 +16,14 @@ use std::alloc::Global;
 use suite_base::Fail;
 
 /// Decides whether a script may be applied to a SCoP. No condition of the script fails, and `edited` is what it makes of
-/// the SCoP. It answers as `check_edit` does; at `Yes` the edited SCoP ends with the memory of the old one, for all
-/// parameter values in context at which the old one has a run.
+/// the SCoP. The violation systems of all dependences are decided in order.
+///
+/// `Limit(Systems, 0)` comes exactly where the new statements have more than 65,536 dependences in the order of their
+/// originals, and before every other answer. `Yes` comes where no violation system has a rational point: then the edited
+/// SCoP ends with the memory of the old one, for all parameter values in context at which the old one has a run.
+/// `Illegal(k)` comes where violation system k, from 1, is the first with a rational point. `Overflow(System, k)` and
+/// `TooManyRows(k)` come only where the peak of violation system k passes 2^127 - 1 or 16,384 rows, and none before it
+/// has a point.
 pub fn check(alloc: Global, scop: &Scop, script: &Script, edited: &Edited) -> Result<Legal, Fail>
     requires formed { IsFormed scop.now script.now }
     requires edited { edited.now ≡ after_script scop.now script.now }
