@@ -32,7 +32,7 @@ in_range P c V = if not (nat_lt 0 c && nat_lt c (children_of P V)) then Err BadA
 abbrev of_loop : List ℕ → ℕ → List (List ℕ) → Result (List (List ℕ)) BetaFail
 of_loop P c V = if not (is_loop P V) then Err NotALoop else in_range P c V
 
-accepted_is : (P : List ℕ) (c : ℕ) (V W : List (List ℕ)) → fission_answer P c V ≡ Ok W → map (fissioned P c) V ≡ W
+pub accepted_is : (P : List ℕ) (c : ℕ) (V W : List (List ℕ)) → fission_answer P c V ≡ Ok W → map (fissioned P c) V ≡ W
 accepted_is P c V W h =
     let a : of_loop P c V ≡ Ok W = past_test (no_statement P V) NoBeta (of_loop P c V) W h in
     let b : in_range P c V ≡ Ok W = past_test (not (is_loop P V)) NotALoop (in_range P c V) W a in
@@ -49,7 +49,7 @@ lead_to : (loops V W : List (List ℕ)) → SplitsLead loops V W → split_at_al
 lead_to [] V W e = e
 lead_to (P ∷ loops) V W (ok, r) = lead_to loops (map (fissioned P 1) V) W r
 
-no_splits : (most n : ℕ) (V : List (List ℕ)) → least_wide_loop n V V ≡ None → splits most n V ≡ []
+pub no_splits : (most n : ℕ) (V : List (List ℕ)) → least_wide_loop n V V ≡ None → splits most n V ≡ []
 no_splits zero n V e = refl
 no_splits (suc most) n V e =
     subst (λ o. elim o as (λ _. List (List ℕ)) [ None ↦ [] | Some P ↦ P ∷ splits most n (map (fissioned P 1) V) ] ≡ []) (sym e) refl
@@ -74,7 +74,7 @@ less_agreeing : (m n l : ℕ) (before more : List Step) → Agreeing m (before +
 less_agreeing m n l [] more (h, k, g) = (omega arith, omega arith, g)
 less_agreeing m n l ((a, o) ∷ before) more (h, k, g) = (h, k, less_agreeing o n l before more g)
 
-all_but : (n a l : ℕ) (before : List Step) → AllBelow n before → a < n → AllBelow n (before ++ (a, l) ∷ [])
+pub all_but : (n a l : ℕ) (before : List Step) → AllBelow n before → a < n → AllBelow n (before ++ (a, l) ∷ [])
 all_but n a l [] b h = (h, tt)
 all_but n a l ((c, o) ∷ before) (k, b) h = (k, all_but n a l before b h)
 

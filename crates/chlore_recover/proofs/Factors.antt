@@ -76,7 +76,7 @@ pub places_of_leads : (rows : List (List ℤ)) → map (λ e. e.0) (leads rows) 
 places_of_leads [] = refl
 places_of_leads (row ∷ rows) = ap (λ t. last_place row ∷ t) (places_of_leads rows)
 
-signed_of_test : (rows : List (List ℤ)) → end_in_signs rows ≡ true → AreSigned (leads rows)
+pub signed_of_test : (rows : List (List ℤ)) → end_in_signs rows ≡ true → AreSigned (leads rows)
 signed_of_test [] h = tt
 signed_of_test (row ∷ rows) h =
     (sign_of_test (last_value row) (and_left (is_sign (last_value row)) (end_in_signs rows) h), signed_of_test rows (and_right (is_sign (last_value row)) (end_in_signs rows) h))
@@ -85,7 +85,7 @@ test_of_signed : (rows : List (List ℤ)) → AreSigned (leads rows) → end_in_
 test_of_signed [] h = refl
 test_of_signed (row ∷ rows) (s, h) = rw (test_of_sign (last_value row) s) (test_of_signed rows h)
 
-places_below : (d : ℕ) (rows : List (List ℤ)) → AreLong d rows → AreSigned (leads rows) → (q : ℕ) → In q (map last_place rows) → q < d
+pub places_below : (d : ℕ) (rows : List (List ℤ)) → AreLong d rows → AreSigned (leads rows) → (q : ℕ) → In q (map last_place rows) → q < d
 places_below d [] l s q i = absurd i
 places_below d (row ∷ rows) (l, more) (s, signs) q (inl e) =
     let h = ends_below row (last_place row) (last_value row) (last_ends row (sign_some (last_value row) s)) in

@@ -39,7 +39,7 @@ abbrev pub behind : List ℕ → List Step → List (List ℕ)
 behind v [] = []
 behind v ((a, l) ∷ more) = trail (next a l v) more
 
-first_behind : (v : List ℕ) (steps : List Step) → trail v steps ≡ v ∷ behind v steps
+pub first_behind : (v : List ℕ) (steps : List Step) → trail v steps ≡ v ∷ behind v steps
 first_behind v [] = refl
 first_behind v ((a, l) ∷ more) = refl
 
@@ -51,7 +51,7 @@ agreement_differs x l v = let ne : x ≢ x + 1 = λ e. omega arith in rw (same_n
 agreement_goes_on : (a x : ℕ) (u v : List ℕ) → agreement u v ≡ a → agreement (x ∷ u) (x ∷ v) ≡ suc a
 agreement_goes_on a x u v e = rw (same_yes x) (omega arith)
 
-agreement_next : (a l : ℕ) (v : List ℕ) → a < length v → agreement v (next a l v) ≡ a
+pub agreement_next : (a l : ℕ) (v : List ℕ) → a < length v → agreement v (next a l v) ≡ a
 agreement_next a l [] h = absurd (omega arith)
 agreement_next zero l (x ∷ v) h = ap (agreement (x ∷ v)) (next_here l x v) ∙ agreement_differs x l v
 agreement_next (suc a) l (x ∷ v) h =
@@ -79,29 +79,29 @@ take_next (suc n) (suc a) l (x ∷ u) (y ∷ v) k h g e =
 
 -- steps behind others
 
-end_behind : (b l : ℕ) (v : List ℕ) (now : List Step) → trail_end v (now ++ (b, l) ∷ []) ≡ next b l (trail_end v now)
+pub end_behind : (b l : ℕ) (v : List ℕ) (now : List Step) → trail_end v (now ++ (b, l) ∷ []) ≡ next b l (trail_end v now)
 end_behind b l v [] = refl
 end_behind b l v ((a, o) ∷ now) = end_behind b l (next a o v) now
 
-lower : (m a b l : ℕ) (now more : List Step) → b ≤ a → Agreeing m (now ++ (a, l) ∷ more) → Agreeing m (now ++ (b, l) ∷ more)
+pub lower : (m a b l : ℕ) (now more : List Step) → b ≤ a → Agreeing m (now ++ (a, l) ∷ more) → Agreeing m (now ++ (b, l) ∷ more)
 lower m a b l [] more h (i, j, g) = (omega arith, omega arith, g)
 lower m a b l ((c, o) ∷ now) more h (i, j, g) = (i, j, lower o a b l now more h g)
 
-lower_behind : (n m : ℕ) (now more : List Step) → Agreeing m (now ++ more) → Agreeing m (now ++ capped n more)
+pub lower_behind : (n m : ℕ) (now more : List Step) → Agreeing m (now ++ more) → Agreeing m (now ++ capped n more)
 lower_behind n m [] [] g = tt
 lower_behind n m [] ((a, l) ∷ more) (h, k, g) = (omega arith, omega arith, lower_behind n l [] more g)
 lower_behind n m ((c, o) ∷ now) more (h, k, g) = (h, k, lower_behind n o now more g)
 
-count_behind : (n : ℕ) (now more : List Step) → length (now ++ capped n more) ≡ length (now ++ more)
+pub count_behind : (n : ℕ) (now more : List Step) → length (now ++ capped n more) ≡ length (now ++ more)
 count_behind n [] [] = refl
 count_behind n [] ((a, l) ∷ more) = ap suc (count_behind n [] more)
 count_behind n (s ∷ now) more = ap suc (count_behind n now more)
 
-count_same : (now : List Step) (s t : Step) (more : List Step) → length (now ++ s ∷ more) ≡ length (now ++ t ∷ more)
+pub count_same : (now : List Step) (s t : Step) (more : List Step) → length (now ++ s ∷ more) ≡ length (now ++ t ∷ more)
 count_same [] s t more = refl
 count_same (b ∷ now) s t more = ap suc (count_same now s t more)
 
-end_long : (v : List ℕ) (now more : List Step) (a l : ℕ) → Agreeing (length v) (now ++ (a, l) ∷ more) → (a < length (trail_end v now)) × (a < l)
+pub end_long : (v : List ℕ) (now more : List Step) (a l : ℕ) → Agreeing (length v) (now ++ (a, l) ∷ more) → (a < length (trail_end v now)) × (a < l)
 end_long v [] more a l (h, k, g) = (h, k)
 end_long v ((b, o) ∷ now) more a l (h, k, g) = end_long (next b o v) now more a l (subst (λ z. Agreeing z (now ++ (a, l) ∷ more)) (sym (length_next b o v h k)) g)
 
@@ -136,7 +136,7 @@ fuse_here n m a l now more v least some few g same h =
           (ap (λ z. trail (zeros m) (now ++ (z, l) ∷ more)) low)
     ]
 
-keep_front : (n a l : ℕ) (u v : List ℕ) → a < length u → a < length v → take n u ≡ take n v → take n (next (min n a) l u) ≡ take n (next a l v)
+pub keep_front : (n a l : ℕ) (u v : List ℕ) → a < length u → a < length v → take n u ≡ take n v → take n (next (min n a) l u) ≡ take n (next a l v)
 keep_front n a l u v h g same =
     elim (bool_tells (nat_le n a)) [
       | inl t ↦
@@ -204,7 +204,7 @@ capped_none : (steps : List Step) → capped 0 steps ≡ map (λ l. (0, l)) (len
 capped_none [] = refl
 capped_none ((a, l) ∷ more) = let e : min 0 a ≡ 0 = omega arith in ap (λ z. (z, l) ∷ capped 0 more) e ∙ ap (λ t. (0, l) ∷ t) (capped_none more)
 
-capped_all : (steps : List Step) → AllBelow 25 steps → capped 24 steps ≡ steps
+pub capped_all : (steps : List Step) → AllBelow 25 steps → capped 24 steps ≡ steps
 capped_all [] b = refl
 capped_all ((a, l) ∷ more) (h, b) = let e : min 24 a ≡ a = omega arith in ap (λ z. (z, l) ∷ capped 24 more) e ∙ ap (λ t. (a, l) ∷ t) (capped_all more b)
 

@@ -29,3 +29,5 @@ pub mod Seats
 pub mod Moves
 pub mod Assembly
 pub mod Recoveries
+pub mod Parting
+pub mod Decisions

@@ -9,3 +9,5 @@ pub mod Drafted
 pub mod Orders
 pub mod Laws
 pub mod Recovered
+pub mod Refusals
+pub mod Passes

@@ -2,7 +2,9 @@
 
 ghost use Rattle.chlore_recover.specs.Drafted.{AllLevelsAreLed, LeavesAreLed, LevelScriptIsTaken, LevelsAreLed};
 ghost use Rattle.chlore_recover.specs.Orders.{OrderedRises};
+ghost use Rattle.chlore_recover.specs.Passes.{FissionsAreRead};
 ghost use Rattle.chlore_recover.specs.Recovered.{StrategyRecovers};
+ghost use Rattle.chlore_recover.specs.Refusals.{UnrefusedCanRecover};
 ghost use Rattle.chlore_recover.specs.Splits.{FissionsLead, FusesLead, LeastIsFirst, ReorderLeads, SplitsLeaveAlone};
 ghost use Rattle.chlore_recover.specs.Laws.{ApartIsFactored, FactoredIsApart, ScriptRecoversLevels, SuitedIsUnrefused};
 
@@ -81,4 +83,16 @@ pub fn all_levels_are_led()
 /// each statement the second one's dense stamp. The script may be longer than one that is read or printed.
 pub fn strategy_recovers()
     ensures { StrategyRecovers }
+{}
+
+/// Two valid SCoPs are not refused for themselves exactly where the numbers of their statements, parameters and
+/// iterators are the same, the first is in Clan's form, and the second is recoverable.
+pub fn unrefused_can_recover()
+    ensures { UnrefusedCanRecover }
+{}
+
+/// The fissions are read off the dense vectors in beta order: how far neighbours agree says which loops are split, and a
+/// count of the neighbours before says which children they are.
+pub fn fissions_are_read()
+    ensures { FissionsAreRead }
 {}
