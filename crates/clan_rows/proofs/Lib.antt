@@ -1,0 +1,7 @@
+pub mod Ranges
+pub mod FormLaws
+pub mod LayerLaws
+pub mod BoundLaws
+pub mod Pieces
+pub mod Shapes
+mod Checks

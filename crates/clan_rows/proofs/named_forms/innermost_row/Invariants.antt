@@ -1,0 +1,9 @@
+use Rattle.std.proofs.Common.{◌≡◌, ◌++◌, length}
+use Rattle.clan_extract.specs.Forms.{innermost}
+use Rattle.clan_rows.proofs.named_forms.innermost_row.Given as goal
+
+abbrev pub invariant-loop-rest : goal.invariant-loop-rest
+invariant-loop-rest l = l.row ++ innermost l.rest l.name ≡ innermost l.loops l.name
+
+abbrev pub decreases-loop-rest : goal.decreases-loop-rest
+decreases-loop-rest l = length l.rest

@@ -1,0 +1,129 @@
+//! The forms of integers and of names.
+
+ghost use Rattle.std.specs.Prelude.{◌≡◌, bytes_eq, cond, not, pos, ◌&&◌, IfOk};
+ghost use Rattle.clan_extract.specs.Regions.{is_among};
+ghost use Rattle.clan_extract.specs.Forms.{constant_form, first_of_name, innermost, name_form};
+ghost use Rattle.clan_rows.specs.Contents.{affine_of};
+
+use crate::forms::Form;
+use crate::rows::zero_row;
+use row_core::{Coeff, DenseRow};
+use scop_data::row_builders::push_zeros;
+use std::alloc::Global;
+use suite_base::{NoMemory, Text};
+
+// Whether two names are the same.
+fn is_same(a: &[u8], b: &[u8]) -> bool
+    ensures { result ≡ bytes_eq a.now b.now }
+{
+    a == b
+}
+
+// Whether the name stands in the list.
+fn is_named(name: &[u8], names: &[Text]) -> bool
+    ensures { result ≡ is_among name.now names.now }
+{
+    let mut rest = names;
+    while let [first, others @ ..] = rest {
+        if is_same(first.bytes(), name) {
+            return true;
+        }
+        rest = others;
+    }
+    false
+}
+
+// Whether a loop is the innermost one of the name.
+fn is_innermost(own: &[u8], inner: &[Text], name: &[u8]) -> bool
+    ensures { result ≡ (bytes_eq own.now name.now && not (is_among name.now inner.now)) }
+{
+    is_same(own, name) && !is_named(name, inner)
+}
+
+// 1 or 0.
+fn unit_if(test: bool) -> Coeff
+    ensures { result ≡ cond test (pos 1) (pos 0) }
+{
+    if test { Coeff::ONE } else { Coeff::ZERO }
+}
+
+// 1 for the innermost loop of the name, and 0 for the others.
+fn innermost_row(alloc: Global, loops: &[Text], name: &[u8]) -> Result<DenseRow, NoMemory>
+    ensures { IfOk result (λ row. row ≡ innermost loops.now name.now) }
+{
+    let mut row = DenseRow::new(alloc);
+    let mut rest = loops;
+    while let [own, inner @ ..] = rest {
+        row.push(unit_if(is_innermost(own.bytes(), inner, name)))?;
+        rest = inner;
+    }
+    Ok(row)
+}
+
+// 1 for the first parameter of the name, and 0 for the others.
+fn first_row(alloc: Global, parameters: &[Text], name: &[u8]) -> Result<DenseRow, NoMemory>
+    ensures { IfOk result (λ row. row ≡ first_of_name parameters.now name.now) }
+{
+    let mut row = DenseRow::new(alloc);
+    let mut rest = parameters;
+    while let [first, others @ ..] = rest {
+        if is_same(first.bytes(), name) {
+            row.push(Coeff::ONE)?;
+            push_zeros(&mut row, others.len())?;
+            return Ok(row);
+        }
+        row.push(Coeff::ZERO)?;
+        rest = others;
+    }
+    Ok(row)
+}
+
+// The parameters' coefficients of a name.
+fn parameter_row(
+    alloc: Global,
+    parameters: &[Text],
+    loops: &[Text],
+    name: &[u8],
+) -> Result<DenseRow, NoMemory>
+    ensures { IfOk result (λ row. row ≡ (name_form parameters.now loops.now name.now).parameters) }
+{
+    if is_named(name, loops) {
+        zero_row(alloc, parameters.len())
+    } else {
+        first_row(alloc, parameters, name)
+    }
+}
+
+impl Form {
+    /// The form that is an integer, inside these loops.
+    pub fn of_number(
+        alloc: Global,
+        parameters: &[Text],
+        loops: &[Text],
+        value: Coeff,
+    ) -> Result<Form, NoMemory>
+        ensures { IfOk result (λ form. affine_of form ≡ constant_form parameters.now loops.now value) }
+    {
+        Ok(Form {
+            iterators: zero_row(alloc, loops.len())?,
+            parameters: zero_row(alloc, parameters.len())?,
+            constant: value,
+        })
+    }
+
+    /// The form of a name inside these loops: the innermost loop of the name, else the parameter.
+    pub fn of_name(
+        alloc: Global,
+        parameters: &[Text],
+        loops: &[Text],
+        name: &[u8],
+    ) -> Result<Form, NoMemory>
+        ensures { IfOk result (λ form. affine_of form ≡ name_form parameters.now loops.now name.now) }
+    {
+        Ok(Form {
+            iterators: innermost_row(alloc, loops, name)?,
+            parameters: parameter_row(alloc, parameters, loops, name)?,
+            constant: Coeff::ZERO,
+        })
+    }
+}
