@@ -156,9 +156,11 @@ fn systems_without_rows(rt: HostRuntime) -> Result<(), Fail> {
     answers_after(&rt, &none, &never, Wanted::Empty)
 }
 
+// The first row passes 64 bits, so that the elimination decides.
 #[test]
 fn many_bounds_of_one_column(rt: HostRuntime) -> Result<(), Fail> {
     let mut base = columns(rt.alloc(), 1, 1);
+    push(&rt, &mut base, RowKind::AtLeast, &[MOST, 0, 0])?;
     for k in 1..130u8 {
         push(&rt, &mut base, RowKind::AtLeast, &[i128::from(k), 1, 0])?;
     }
