@@ -1,0 +1,6 @@
+use Rattle.std.proofs.Common.{◌≡◌, drop}
+use Rattle.c_parser.specs.Symbols.{value_from}
+use Rattle.region_forms.proofs.numbers.integer.Given as goal
+
+abbrev pub invariant-loop-b : goal.invariant-loop-b
+invariant-loop-b l = value_from l.value (drop l.b-index l.digits) ≡ value_from 0 l.digits
