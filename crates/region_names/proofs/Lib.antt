@@ -1,0 +1,5 @@
+pub mod Meaning
+pub mod NodeNames
+pub mod Tables
+pub mod Telling
+pub mod ValueNames

@@ -1,0 +1,6 @@
+pub mod Answers
+pub mod Registers
+pub mod Roles
+pub mod Tables
+pub mod Telling
+pub mod Walks
