@@ -1,16 +1,16 @@
 -- What the registers answer are the names of all occurrences, or the place of their first clash.
-use Rattle.std.proofs.Common.{◌≡◌, ℕ, List, [], ◌∷◌, ◌++◌, refl, sym, ap, subst, ◌∙◌, append_assoc}
+use Rattle.std.proofs.Common.{◌≡◌, ℕ, List, [], ◌∷◌, ◌++◌, refl, sym, ap, ◌∙◌, append_assoc}
 use Rattle.std.specs.Prelude.{Bool, true, false, not, cond, ◌&&◌, ◌||◌, bytes_eq, Option, Some, None, is_some, Result, Ok, Err}
 use Rattle.std.proofs.lemmas.List.{append-nil}
 use Rattle.std.proofs.lemmas.Bool.{eqb-true, eq-eqb}
 use Rattle.std.proofs.lemmas.Slice.Eq.{bytes_eq-Decides}
 use Rattle.clan_extract.specs.Regions.{is_among, without, first_occurrences}
-use Rattle.clan_extract.specs.Names.{Role, Function, ArrayOf, Iterator, Parameter, Occurrence, is_parameter, is_array_role, same_role, says_parameter, has_parameter, role_with, plain_role, role_of, first_role, breaks, first_break, names_with}
+use Rattle.clan_extract.specs.Names.{Role, Function, ArrayOf, Iterator, Parameter, Occurrence, is_parameter, is_array_role, same_role, says_parameter, has_parameter, role_with, role_of, first_role, first_break, names_with}
 use Rattle.region_names.specs.declared.region.Names.{Names}
 use Rattle.region_names.specs.declared.registers.Register.{Register}
 use Rattle.region_names.specs.declared.registers.Walk.TheVariants as walk
 use Rattle.region_names.specs.Tables.{role_in, names_in}
-use Rattle.region_names.specs.Registers.{with_name, noted, plain_by, resolved, met, started, told, after}
+use Rattle.region_names.specs.Registers.{with_name, noted, plain_by, resolved, met, started, after}
 use Rattle.region_names.proofs.Tables.{names_in_append}
 use Rattle.region_names.specs.Answers.{unless_clash, names_or_clash, kept_names}
 

@@ -1,6 +1,6 @@
 -- The names of statements are those of the statements and values right below them.
 use Rattle.std.proofs.Common.{◌≡◌, ℕ, List, [], ◌∷◌, ◌++◌, refl, sym, ap, ◌∙◌, append_assoc}
-use Rattle.std.specs.Prelude.{true, false, length, Option, Some, None}
+use Rattle.std.specs.Prelude.{true, false, length, Some, None}
 use Rattle.std.specs.List.{flat_map}
 use Rattle.std.proofs.lemmas.List.{append-nil}
 use Rattle.c_parser.specs.declared.tree.Piece.{Piece}
@@ -10,11 +10,11 @@ use Rattle.c_parser.specs.declared.tree.Node.{Node, out-Node}
 use Rattle.c_parser.specs.declared.tree.Node.TheVariants as node
 use Rattle.c_parser.specs.declared.tree.Branch.{Branch, out-Branch}
 use Rattle.c_parser.specs.declared.tree.Loop.{Loop, out-Loop}
-use Rattle.clan_extract.specs.Names.{Occurrence, ArrayOf}
-use Rattle.region_trees.specs.Terms.{Element, bytes_of, sum_of, value_of, target_of}
-use Rattle.region_trees.specs.Statements.{Statements, Next, NoStatements, statement_of, statements_of, branch_of, loop_of}
+use Rattle.clan_extract.specs.Names.{ArrayOf}
+use Rattle.region_trees.specs.Terms.{Element, bytes_of, sum_of, value_of}
+use Rattle.region_trees.specs.Statements.{Next, NoStatements, statement_of}
 use Rattle.region_trees.specs.Layers.{node_layer, statement_is, loop_is, branch_is, other_of, target_is, terms_by}
-use Rattle.region_trees.specs.Occurrences.{count, occurrence, occurrences_left, loop_name, occurrences_of, occurrences_of_all, occurrences_in, occurrences_in_all}
+use Rattle.region_trees.specs.Occurrences.{occurrence, occurrences_left, loop_name, occurrences_of, occurrences_of_all, occurrences_in, occurrences_in_all}
 use Rattle.region_names.specs.Walks.{head_name, scope_of, value_names, sum_names, subscript_names, assign_names, node_names, loop_names, branch_names, nodes_names}
 use Rattle.region_names.proofs.ValueNames.{count_is}
 

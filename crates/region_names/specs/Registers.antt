@@ -1,6 +1,6 @@
 -- What a walk keeps of the occurrences of names: first which names are parameters, then the role of each name, up to the first clash.
-use Rattle.std.specs.Prelude.{ℕ, List, [], ◌∷◌, ◌++◌, Bool, cond, not, ◌||◌, Option, Some, None, Result, Ok, Err}
-use Rattle.clan_extract.specs.Names.{Role, ArrayOf, Parameter, Occurrence, same_role, says_parameter, role_with, is_parameter, is_array_role}
+use Rattle.std.specs.Prelude.{ℕ, List, [], ◌∷◌, ◌++◌, Bool, cond, not, ◌||◌, Option, Some, None}
+use Rattle.clan_extract.specs.Names.{Role, ArrayOf, Parameter, Occurrence, same_role, says_parameter, role_with}
 use Rattle.region_names.specs.declared.registers.Register.{Register}
 use Rattle.region_names.specs.declared.registers.Walk.{Walk}
 use Rattle.region_names.specs.declared.registers.Walk.TheVariants as walk

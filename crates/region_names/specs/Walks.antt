@@ -6,7 +6,6 @@ use Rattle.c_parser.specs.declared.tree.Sum.{Sum}
 use Rattle.c_parser.specs.declared.tree.Value.{Value}
 use Rattle.c_parser.specs.declared.tree.Target.{Target, out-Target}
 use Rattle.c_parser.specs.declared.tree.Product.{Product}
-use Rattle.c_parser.specs.declared.tree.Unary.{Unary}
 use Rattle.c_parser.specs.declared.tree.Primary.{Primary}
 use Rattle.c_parser.specs.declared.tree.Compare.{Compare}
 use Rattle.c_parser.specs.declared.tree.Equal.{Equal}
@@ -19,7 +18,7 @@ use Rattle.c_parser.specs.declared.tree.Branch.{Branch}
 use Rattle.c_parser.specs.declared.tree.Loop.{Loop}
 use Rattle.clan_extract.specs.Names.{Function, ArrayOf, Occurrence}
 use Rattle.clan_extract.specs.Regions.{is_among}
-use Rattle.region_trees.specs.Terms.{bytes_of, sum_of, value_of, target_of, product_of, unary_of, primary_of, compare_of, equal_of, and_of, or_of}
+use Rattle.region_trees.specs.Terms.{bytes_of, sum_of, value_of, target_of, product_of, primary_of, compare_of, equal_of, and_of, or_of}
 use Rattle.region_trees.specs.Layers.{terms_by}
 use Rattle.region_trees.specs.Statements.{assignment_of, statement_of, statements_of, branch_of, loop_of}
 use Rattle.region_trees.specs.Occurrences.{occurrence, loop_name, role_with, occurrences_of, occurrences_of_all, occurrences_in, occurrences_in_all}
@@ -76,9 +75,6 @@ module _ (source : List ℕ) (scope : List Piece) (control : Bool) where
 
   unfoldable pub product_names : Product → List Occurrence
   product_names x = occurrences_of control (scope_of source scope) (product_of source x)
-
-  unfoldable pub unary_names : Unary → List Occurrence
-  unary_names x = occurrences_of control (scope_of source scope) (unary_of source x)
 
   unfoldable pub primary_names : Primary → List Occurrence
   primary_names x = occurrences_of control (scope_of source scope) (primary_of source x)

@@ -1,4 +1,4 @@
-use Rattle.std.proofs.Common.{[], ◌∷◌, ◌++◌}
+use Rattle.std.proofs.Common.{[], ◌∷◌}
 use Rattle.std.specs.Prelude.{false}
 use Rattle.region_names.specs.Walks.{left_name, subscript_names, value_names, assign_names}
 use Rattle.region_names.proofs.Telling.{told_then, last_told}
