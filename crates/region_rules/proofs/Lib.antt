@@ -1,0 +1,10 @@
+pub mod Affinities
+pub mod Joins
+pub mod Calls
+pub mod Trees
+pub mod Sizes
+pub mod Faults
+pub mod Heads
+pub mod Primaries
+pub mod StatementFaults
+pub mod Signs
