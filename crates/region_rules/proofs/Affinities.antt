@@ -11,7 +11,6 @@ use Rattle.region_trees.specs.Terms.{Operation, Plus, Minus, Times, Divide, Modu
 use Rattle.region_trees.specs.Regions.{option_map, option_map2, signed, combined, plain, expression_of}
 use Rattle.region_rules.specs.declared.facts.Affinity.{Affinity}
 use Rattle.region_rules.specs.declared.facts.Affinity.TheVariants as aff
-use Rattle.region_rules.specs.declared.facts.Size.TheVariants as size
 use Rattle.region_rules.specs.Facts.{holds, size_of, affinity_of, is_zero, is_some_size, is_affine_kind, sum_affinity, product_affinity}
 
 pub and_false : (b : Bool) → (b && false) ≡ false

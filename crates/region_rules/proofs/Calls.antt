@@ -1,13 +1,12 @@
 -- What a call has by its name and its arguments.
-use Rattle.std.proofs.Common.{◌≡◌, refl, sym, ap, ◌∙◌, ℕ, zero, suc, List, [], ◌∷◌, map, Bool, true, false, Option, Some, None}
+use Rattle.std.proofs.Common.{◌≡◌, refl, sym, ap, ◌∙◌, ℕ, List, [], ◌∷◌, map, Bool, true, false, Option, Some, None}
 use Rattle.std.specs.Prelude.{cond, ◌&&◌, nat_le, bytes_eq, codes}
 use Rattle.clan_extract.specs.Regions.{Expression, Maximum, Minimum, Ceiling, Floor}
 use Rattle.clan_extract.specs.Forms.{is_affine}
 use Rattle.clan_extract.specs.Scops.{is_lower_bound, is_upper_bound}
-use Rattle.region_trees.specs.Terms.{Term, Call, Terms, NoTerms, More, Located}
+use Rattle.region_trees.specs.Terms.{Term, Call, NoTerms, More, Located}
 use Rattle.region_trees.specs.Layers.{terms_by}
-use Rattle.region_trees.specs.Regions.{option_map2, expression_of, divisor_of, of_two, quotient, bound_of, bounds_of}
-use Rattle.region_rules.specs.declared.facts.Affinity.TheVariants as aff
+use Rattle.region_trees.specs.Regions.{option_map2, expression_of, divisor_of, quotient, bound_of}
 use Rattle.region_rules.specs.declared.facts.Facts.{Facts}
 use Rattle.region_rules.specs.declared.facts.Arguments.{Arguments}
 use Rattle.region_rules.specs.declared.facts.Arguments.TheVariants as arg
@@ -112,9 +111,6 @@ call_facts name [] = no_facts
 call_facts name (left ∷ []) = no_facts
 call_facts name (left ∷ right ∷ []) = called name left right
 call_facts name (left ∷ right ∷ other ∷ more) = no_facts
-
-abbrev none_at : List ℕ → ℕ → Terms → Type 0
-none_at name at arguments = facts_of (Call name at arguments) ≡ no_facts
 
 pub call_is : {X : Type 0} (says : X → Located) (name : List ℕ) (at : ℕ) (xs : List X)
     → facts_of (Call name at (terms_by says xs)) ≡ call_facts name (map (λ x. facts_of (says x).term) xs)

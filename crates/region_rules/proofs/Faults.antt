@@ -3,31 +3,23 @@ use Rattle.std.proofs.Common.{◌≡◌, refl, sym, ap, ◌∙◌, ℕ, List, []
 use Rattle.std.specs.Prelude.{cond}
 use Rattle.c_parser.specs.declared.tree.UnarySign.{UnarySign}
 use Rattle.c_parser.specs.declared.tree.Sum.{Sum, out-Sum}
-use Rattle.c_parser.specs.declared.tree.Value.{Value, out-Value}
+use Rattle.c_parser.specs.declared.tree.Value.{Value}
 use Rattle.c_parser.specs.declared.tree.Target.{Target, out-Target}
 use Rattle.c_parser.specs.declared.tree.Product.{Product, out-Product}
 use Rattle.c_parser.specs.declared.tree.Unary.{Unary, out-Unary}
-use Rattle.c_parser.specs.declared.tree.Primary.{Primary, out-Primary}
 use Rattle.c_parser.specs.declared.tree.Compare.{Compare, out-Compare}
 use Rattle.c_parser.specs.declared.tree.Equal.{Equal, out-Equal}
 use Rattle.c_parser.specs.declared.tree.And.{And, out-And}
 use Rattle.c_parser.specs.declared.tree.Or.{Or, out-Or}
-use Rattle.c_parser.specs.declared.tree.Arms.{Arms}
 use Rattle.clan_extract.specs.Regions.{Expression, Reference}
 use Rattle.clan_extract.specs.Forms.{is_affine}
-use Rattle.region_trees.specs.Terms.{Operation, Conjunction, Disjunction, Term, Terms, NoTerms, More, Joined, Literal, Named, Located, Element, of_rel, of_equal, of_sum, of_product, all_signed, bytes_of, sum_of, value_of, target_of, product_of, unary_of, primary_of, compare_of, equal_of, and_of, or_of, arms_of}
-use Rattle.region_trees.specs.Layers.{joined_by, all_by, some_by, terms_by, term_of_sum, with_arms, sum_is, product_is, unary_is, target_is, compare_is, equal_is, and_is, or_is, value_is}
+use Rattle.region_trees.specs.Terms.{Operation, Conjunction, Disjunction, Term, Joined, Located, Element, of_rel, of_equal, of_sum, of_product, all_signed, bytes_of, sum_of, value_of, target_of, product_of, unary_of, primary_of, compare_of, equal_of, and_of, or_of}
+use Rattle.region_trees.specs.Layers.{joined_by, all_by, some_by, terms_by, term_of_sum, sum_is, product_is, unary_is, target_is, compare_is, equal_is, and_is, or_is}
 use Rattle.region_trees.specs.Regions.{first_some, passed, result_map, result_map2, expression_of, subscripts_of, reference_of, references_of, references_of_all}
 use Rattle.region_rules.specs.Facts.{holds}
 use Rattle.region_rules.specs.Faults.{fault_of, reads_fault_of, values_fault_of}
 
 -- ---- options and results
-
-pub found : (x y : Option ℕ) (at : ℕ) → x ≡ Some at → Some at ≡ first_some x y
-found x y at e = ap (λ z. first_some z y) (sym e)
-
-pub not_found : (x y z : Option ℕ) → x ≡ None → z ≡ y → z ≡ first_some x y
-not_found x y z e f = f ∙ ap (λ w. first_some w y) (sym e)
 
 pub none_last : (x : Option ℕ) → first_some x None ≡ x
 none_last None = refl
@@ -62,10 +54,6 @@ named_fault : (name : List ℕ) (x : Result (List Expression) ℕ)
     → fault_of {A = Reference} (result_map (λ es. record { name = name; subscripts = es }) x) ≡ fault_of x
 named_fault name (Ok a) = refl
 named_fault name (Err at) = refl
-
-pub single_fault : (x : Result Reference ℕ) → fault_of {A = List Reference} (result_map (λ r. r ∷ []) x) ≡ fault_of x
-single_fault (Ok a) = refl
-single_fault (Err at) = refl
 
 passed_by : {A : Type 0} (a : A) (at : ℕ) (b : Bool) → fault_of {A = A} (cond b (Ok a) (Err at)) ≡ cond b None (Some at)
 passed_by a at true = refl
@@ -189,25 +177,6 @@ or_faults source x = ap reads_fault_of (or_is source x) ∙ item_faults Disjunct
 
 pub unary_faults : (source : List ℕ) (x : Unary) → unary_reads source x ≡ reads_fault_of (primary_of source (out-Unary x).primary)
 unary_faults source x = ap reads_fault_of (unary_is source x) ∙ sign_faults (out-Unary x).signs (primary_of source (out-Unary x).primary)
-
-abbrev pub arms_reads : List ℕ → Arms → Option ℕ
-arms_reads source arms = first_some (reads_fault_of (arms_of source arms).yes) (reads_fault_of (arms_of source arms).no)
-
-abbrev pub arms_fault : List ℕ → Option Arms → Option ℕ
-arms_fault source None = None
-arms_fault source (Some arms) = arms_reads source arms
-
-with_arms_fault : (source : List ℕ) (test : Term) (arms : Option Arms) → reads_fault_of (with_arms source test arms) ≡ first_some (reads_fault_of test) (arms_fault source arms)
-with_arms_fault source test None = sym (none_last (reads_fault_of test))
-with_arms_fault source test (Some arms) =
-    let yes = references_of (arms_of source arms).yes in
-    let no = references_of (arms_of source arms).no in
-    joined_fault (references_of test) (result_map2 (λ rs ss. rs ++ ss) yes no)
-    ∙ ap (λ z. first_some (reads_fault_of test) z) (joined_fault yes no)
-
-pub value_faults : (source : List ℕ) (x : Value)
-    → value_reads source x ≡ first_some (reads_fault_of (or_of source (out-Value x).test)) (arms_fault source (out-Value x).arms)
-value_faults source x = ap (λ (v : Located). reads_fault_of v.term) (value_is source x) ∙ with_arms_fault source (or_of source (out-Value x).test) (out-Value x).arms
 
 -- ---- from what loops show
 

@@ -1,22 +1,17 @@
 -- The rules of starts, bounds, steps and conditions, by the facts of their terms.
 use Rattle.std.proofs.Common.{◌≡◌, refl, sym, ap, ◌∙◌, ℕ, zero, suc, List, [], ◌∷◌, Bool, true, false, Option, Some, None}
-use Rattle.std.proofs.Math.Dec.{leb-zero, eqb-suc-zero, eqb-suc-suc}
-use Rattle.std.specs.Prelude.{cond, ◌&&◌, ◌||◌, not, ℤ, pos, negsuc, neg_ℤ, unsigned_abs, nat_eq, nat_le, int_le, bytes_eq, codes}
-use Rattle.c_parser.specs.declared.tree.Rel.{Rel}
-use Rattle.c_parser.specs.declared.tree.Rel.TheVariants as rl
-use Rattle.c_parser.specs.declared.tree.Step.{Step}
-use Rattle.c_parser.specs.declared.tree.Step.TheVariants as st
+use Rattle.std.proofs.Math.Dec.{eqb-suc-zero, eqb-suc-suc}
+use Rattle.std.specs.Prelude.{cond, ◌&&◌, ◌||◌, not, ℤ, unsigned_abs, nat_eq, bytes_eq, codes}
 use Rattle.clan_extract.specs.Regions.{Expression, Maximum, Minimum, Ceiling, Floor, Comparison}
 use Rattle.clan_extract.specs.Forms.{is_affine}
 use Rattle.clan_extract.specs.Scops.{is_lower_bound, is_upper_bound}
-use Rattle.region_trees.specs.Terms.{Term, Integer, Literal, Named, Call, Bracket, Signed, Joined, Choice, Terms, NoTerms, More, order_of, number_of}
-use Rattle.region_trees.specs.Statements.{step_of}
-use Rattle.region_trees.specs.Regions.{option_map2, expression_of, of_two, divisor_in, quotient, bound_of, bounds_of, is_downward, is_short, is_start, is_bound, is_step}
+use Rattle.region_trees.specs.Terms.{Term, Integer, Literal, Named, Call, Bracket, Signed, Joined, Choice, Terms, NoTerms, More}
+use Rattle.region_trees.specs.Regions.{option_map2, expression_of, of_two, divisor_in, quotient, bound_of, bounds_of, is_downward, is_start, is_bound}
 use Rattle.region_rules.specs.declared.facts.Size.{Size}
 use Rattle.region_rules.specs.declared.facts.Size.TheVariants as size
-use Rattle.region_rules.specs.Facts.{holds, size_of, affinity_of, facts_of, is_affine_kind, is_some_size}
-use Rattle.region_rules.specs.Faults.{goes_down, is_start_by, is_bound_by}
-use Rattle.region_rules.proofs.Affinities.{size_is_some, affine_is}
+use Rattle.region_rules.specs.Facts.{holds, size_of, affinity_of, facts_of, is_affine_kind}
+use Rattle.region_rules.specs.Faults.{is_start_by, is_bound_by}
+use Rattle.region_rules.proofs.Affinities.{affine_is}
 
 pub affine_holds : (x : Option Expression) → holds is_affine x ≡ is_affine_kind (affinity_of x)
 affine_holds None = refl
@@ -112,57 +107,3 @@ starts c z t =
     starts_by c z (bound_of t)
     ∙ ap (λ b. cond (is_downward c) (holds is_upper_bound (bound_of t)) (holds is_lower_bound (bound_of t)) && or_short (size_of (unsigned_abs z)) b) (affine_bound t)
     ∙ sized c (size_of (unsigned_abs z)) t
-
--- ---- steps
-
-pub size_of_opposite : (n : ℕ) → unsigned_abs (neg_ℤ (pos n)) ≡ n
-size_of_opposite zero = refl
-size_of_opposite (suc n) = refl
-
--- a step that is not 0 goes up or down
-abbrev toward : Size → Bool → Bool
-toward s direction = cond (is_some_size s) direction false
-
-as_test : (b : Bool) → b ≡ cond b true false
-as_test true = refl
-as_test false = refl
-
-up_forward : (n : ℕ) → int_le (pos 1) (pos n) ≡ toward (size_of n) true
-up_forward n = size_is_some n ∙ as_test (is_some_size (size_of n))
-
-down_forward : (n : ℕ) → int_le (pos 1) (neg_ℤ (pos n)) ≡ toward (size_of (unsigned_abs (neg_ℤ (pos n)))) false
-down_forward zero = refl
-down_forward (suc n) = same_false _
-
-up_backward : (n : ℕ) → int_le (pos n) (negsuc 0) ≡ toward (size_of n) false
-up_backward n = same_false _
-
-down_backward : (n : ℕ) → int_le (neg_ℤ (pos n)) (negsuc 0) ≡ toward (size_of (unsigned_abs (neg_ℤ (pos n)))) true
-down_backward zero = refl
-down_backward (suc zero) = refl
-down_backward (suc (suc n)) = leb-zero (suc n)
-
-abbrev agrees : Bool → Bool → Bool
-agrees down goes = cond down goes (not goes)
-
-up_steps : (rel : Rel) (n : ℕ) → is_step (order_of rel) (pos n) ≡ toward (size_of n) (agrees (is_downward (order_of rel)) false)
-up_steps rl.Less n = up_forward n
-up_steps rl.LessEqual n = up_forward n
-up_steps rl.Greater n = up_backward n
-up_steps rl.GreaterEqual n = up_backward n
-
-down_steps : (rel : Rel) (n : ℕ)
-    → is_step (order_of rel) (neg_ℤ (pos n)) ≡ toward (size_of (unsigned_abs (neg_ℤ (pos n)))) (agrees (is_downward (order_of rel)) true)
-down_steps rl.Less n = down_forward n
-down_steps rl.LessEqual n = down_forward n
-down_steps rl.Greater n = down_backward n
-down_steps rl.GreaterEqual n = down_backward n
-
-pub steps : (source : List ℕ) (rel : Rel) (step : Step)
-    → is_step (order_of rel) (step_of source step) ≡ toward (size_of (unsigned_abs (step_of source step))) (agrees (is_downward (order_of rel)) (goes_down step))
-steps source rel st.PostUp = up_steps rel 1
-steps source rel st.PreUp = up_steps rel 1
-steps source rel (st.AddUp piece) = up_steps rel (number_of source piece)
-steps source rel st.PostDown = down_steps rel 1
-steps source rel st.PreDown = down_steps rel 1
-steps source rel (st.SubDown piece) = down_steps rel (number_of source piece)

@@ -1,18 +1,18 @@
 -- What a term has by its parts: brackets, signs, and two terms with a sign between.
-use Rattle.std.proofs.Common.{◌≡◌, refl, sym, ap, ◌∙◌, ℕ, zero, suc, Bool, true, false, Option, Some, None}
+use Rattle.std.proofs.Common.{◌≡◌, refl, sym, ap, ◌∙◌, ℕ, Bool, true, false, Option, Some, None}
 use Rattle.std.specs.Prelude.{cond, ◌&&◌, nat_eq, nat_le}
 use Rattle.c_parser.specs.declared.tree.UnarySign.{UnarySign}
 use Rattle.c_parser.specs.declared.tree.UnarySign.TheVariants as un
 use Rattle.clan_extract.specs.Regions.{Expression, Number, Remainder, Comparison, Condition, Compare, Both, Either, Opposite}
 use Rattle.clan_extract.specs.Forms.{is_affine}
 use Rattle.clan_extract.specs.Scops.{is_lower_bound, is_upper_bound, is_equality, is_condition}
-use Rattle.region_trees.specs.Terms.{Operation, Plus, Minus, Times, Divide, Modulo, Conjunction, Disjunction, Compares, Term, Integer, Literal, Named, Call, Bracket, Signed, Joined, Choice, Terms, NoTerms, More}
-use Rattle.region_trees.specs.Regions.{option_map, option_map2, first_some, expression_of, divisor_of, integer_of, remainder_by, remainder_of, compared, condition_of, bound_of}
+use Rattle.region_trees.specs.Terms.{Operation, Plus, Minus, Times, Divide, Modulo, Conjunction, Disjunction, Compares, Term, Integer, Literal, Named, Call, Bracket, Signed, Joined, Choice}
+use Rattle.region_trees.specs.Regions.{option_map, option_map2, first_some, expression_of, divisor_of, integer_of, remainder_of, condition_of, bound_of}
 use Rattle.region_rules.specs.declared.facts.Affinity.{Affinity}
 use Rattle.region_rules.specs.declared.facts.Affinity.TheVariants as aff
 use Rattle.region_rules.specs.declared.facts.Size.{Size}
 use Rattle.region_rules.specs.declared.facts.Facts.{Facts}
-use Rattle.region_rules.specs.Facts.{holds, size_of, affinity_of, is_fair, facts_of, is_zero, is_positive, is_affine_kind, plain, integer, bracketed, signed, are_compared, join}
+use Rattle.region_rules.specs.Facts.{holds, size_of, affinity_of, is_fair, facts_of, is_zero, is_positive, is_affine_kind, integer, bracketed, signed, join}
 use Rattle.region_rules.proofs.Affinities.{and_false, size_is_some, size_is_zero, affine_is, sums, differences, products, negations, IsBare, bare}
 
 -- ---- facts, one by one
@@ -40,9 +40,6 @@ expression_facts t a r c pa pn pd pr pc pb =
     (ap (λ n. option_map size_of n) pn) (ap (λ d. holds (nat_le 1) d) pd) pr pc
     (ap (λ e. holds is_lower_bound e) pb ∙ (bare t).lower ∙ ap is_affine_kind pa)
     (ap (λ e. holds is_upper_bound e) pb ∙ (bare t).upper ∙ ap is_affine_kind pa)
-
-pub integer_facts : (value : ℕ) → facts_of (Integer value) ≡ integer (size_of value)
-integer_facts value = same (facts_of (Integer value)) (integer (size_of value)) refl refl (size_is_some value) refl refl refl refl
 
 pub bracket_facts : (of : Term) → facts_of (Bracket of) ≡ bracketed (facts_of of)
 bracket_facts of = same (facts_of (Bracket of)) (bracketed (facts_of of)) refl refl refl refl refl (bare of).lower (bare of).upper

@@ -2,27 +2,22 @@
 use Rattle.std.proofs.Common.{◌≡◌, refl, sym, ap, ◌∙◌, ℕ, List, [], ◌∷◌, Bool, Option, Some, None, Result, Ok, Err}
 use Rattle.std.specs.Prelude.{cond, ℤ, unsigned_abs}
 use Rattle.c_parser.specs.declared.tree.Sum.{Sum, out-Sum}
-use Rattle.c_parser.specs.declared.tree.Rel.{Rel}
-use Rattle.c_parser.specs.declared.tree.Step.{Step}
-use Rattle.c_parser.specs.declared.tree.Value.{Value, out-Value}
-use Rattle.c_parser.specs.declared.tree.Assign.{Assign as AssignTree}
+use Rattle.c_parser.specs.declared.tree.Value.{Value}
 use Rattle.c_parser.specs.declared.tree.Node.{Node}
 use Rattle.c_parser.specs.declared.tree.Node.TheVariants as node
 use Rattle.c_parser.specs.declared.tree.Branch.{Branch as BranchTree, out-Branch}
 use Rattle.c_parser.specs.declared.tree.Loop.{Loop as LoopTree, out-Loop}
-use Rattle.clan_extract.specs.Regions.{Expression, Comparison, Condition, Reference, Node as Region, If, Assign, Nodes, NoNodes, Then}
+use Rattle.clan_extract.specs.Regions.{Expression, Comparison, Condition, Node as Region, If, Nodes, NoNodes, Then}
 use Rattle.clan_extract.specs.Regions as region
-use Rattle.clan_extract.specs.Forms.{is_affine}
 use Rattle.clan_extract.specs.Scops.{is_condition}
-use Rattle.region_trees.specs.Terms.{Located, order_of, bytes_of, sum_of, value_of, target_of}
-use Rattle.region_trees.specs.Statements.{Statement, Statements, NoStatements, Next, text_of, is_update, step_of, assignment_of, statement_of, statements_of, branch_of, loop_of}
+use Rattle.region_trees.specs.Terms.{Located, order_of, bytes_of, sum_of, value_of}
+use Rattle.region_trees.specs.Statements.{Statement, NoStatements, Next, step_of, statement_of, statements_of, branch_of, loop_of}
 use Rattle.region_trees.specs.Layers.{node_layer, other_of, sum_is, statement_is, loop_is, branch_is}
-use Rattle.region_trees.specs.Regions.{first_some, result_map2, for_of, expression_of, condition_of, bound_of, passed, references_of, reference_of, is_start, is_bound, is_step, start_of, limit_of, node_of, nodes_of}
-use Rattle.region_rules.specs.Facts.{holds, size_of, affinity_of, facts_of, is_affine_kind}
-use Rattle.region_rules.specs.Faults.{fault_of, reads_fault_of, head_fault_of, is_start_by, is_bound_by}
-use Rattle.region_rules.proofs.Faults.{none_last, first_of_three, mapped, mapped2, passes, first_fault, faults_from, by_list, reference_fault, subscript_fault}
-use Rattle.region_rules.proofs.Heads.{affine_holds, starts, bounds}
-use Rattle.region_rules.proofs.Primaries.{place_is}
+use Rattle.region_trees.specs.Regions.{first_some, result_map2, for_of, condition_of, bound_of, passed, is_start, is_bound, is_step, start_of, limit_of, node_of, nodes_of}
+use Rattle.region_rules.specs.Facts.{holds, size_of, facts_of}
+use Rattle.region_rules.specs.Faults.{fault_of, head_fault_of, is_start_by, is_bound_by}
+use Rattle.region_rules.proofs.Faults.{none_last, first_of_three, mapped, mapped2, passes, first_fault, faults_from, by_list}
+use Rattle.region_rules.proofs.Heads.{starts, bounds}
 
 -- ---- places
 
@@ -37,10 +32,6 @@ at_fault passes at = cond passes None (Some at)
 placed : {A : Type 0} (test : A → Bool) (at place : ℕ) (x : Option A) (b : Bool) → at ≡ place → holds test x ≡ b → fault_of (passed test at x) ≡ at_fault b place
 placed test at place x b p q = passes test at x ∙ ap (λ c. at_fault c at) q ∙ ap (at_fault b) p
 
-pub subscript_at : (source : List ℕ) (x : Sum)
-    → subscript_fault (sum_of source x) ≡ at_fault (is_affine_kind (facts_of (sum_of source x).term).affinity) (out-Sum x).at
-subscript_at source x = placed is_affine _ _ (expression_of (sum_of source x).term) _ (sum_place source x) (affine_holds (expression_of (sum_of source x).term))
-
 pub start_at : (source : List ℕ) (c : Comparison) (z : ℤ) (x : Sum)
     → fault_of (start_of c z (sum_of source x)) ≡ at_fault (is_start_by c (size_of (unsigned_abs z)) (facts_of (sum_of source x).term)) (out-Sum x).at
 start_at source c z x = placed (is_start c z) _ _ (bound_of (sum_of source x).term) _ (sum_place source x) (starts c z (sum_of source x).term)
@@ -48,13 +39,6 @@ start_at source c z x = placed (is_start c z) _ _ (bound_of (sum_of source x).te
 pub bound_at : (source : List ℕ) (c : Comparison) (x : Sum)
     → fault_of (limit_of c (sum_of source x)) ≡ at_fault (is_bound_by c (facts_of (sum_of source x).term)) (out-Sum x).at
 bound_at source c x = placed (is_bound c) _ _ (bound_of (sum_of source x).term) _ (sum_place source x) (bounds c (sum_of source x).term)
-
-pub step_at : (c : Comparison) (z : ℤ) (at : ℕ) → fault_of (passed (is_step c) at (Some z)) ≡ at_fault (is_step c z) at
-step_at c z at = passes (is_step c) at (Some z)
-
-pub condition_at : (source : List ℕ) (x : Value)
-    → fault_of (passed is_condition (value_of source x).at (condition_of (value_of source x).term)) ≡ at_fault (facts_of (value_of source x).term).is_condition (out-Value x).at
-condition_at source x = placed is_condition _ _ (condition_of (value_of source x).term) _ (place_is source x) refl
 
 -- ---- statements
 
@@ -123,36 +107,11 @@ branch_faults source x =
     ∙ ap (λ y. first_some first (first_some y (fault_of (nodes_of other)))) (one_fault one)
     ∙ ap (λ y. first_some first (first_some (statement_fault one) y)) (other_faults source (out-Branch x).other)
 
-assignment_parts : (text : List ℕ) (updates : Bool) (t : Result Reference ℕ) (rs : Result (List Reference) ℕ)
-    → fault_of {A = Region} (result_map2 (λ t rs. Assign (record { text = text; target = t; updates = updates; right = rs })) t rs)
-    ≡ first_some (fault_of t) (fault_of rs)
-assignment_parts text updates (Err at) rs = refl
-assignment_parts text updates (Ok t) (Err at) = refl
-assignment_parts text updates (Ok t) (Ok rs) = refl
-
-pub assignment_faults : (source : List ℕ) (x : AssignTree)
-    → statement_fault (assignment_of source x) ≡ first_some (reference_fault (target_of source x.target)) (reads_fault_of (value_of source x.value).term)
-assignment_faults source x =
-    assignment_parts (text_of source x.body) (is_update x.sign)
-    (reference_of (target_of source x.target).name (target_of source x.target).subscripts) (references_of (value_of source x.value).term)
-
 -- ---- nodes
-
-pub for_fault : (source : List ℕ) (x : LoopTree) → node_fault source (node.For x) ≡ statement_fault (loop_of source x)
-for_fault source x = ap statement_fault (statement_is source (node.For x) ∙ ap (node_layer source) (node.outs-For x))
-
-pub if_fault : (source : List ℕ) (x : BranchTree) → node_fault source (node.If x) ≡ statement_fault (branch_of source x)
-if_fault source x = ap statement_fault (statement_is source (node.If x) ∙ ap (node_layer source) (node.outs-If x))
 
 pub block_fault : (source : List ℕ) (xs : List Node) → node_fault source (node.Block xs) ≡ fault_of (nodes_of (statements_of source xs))
 block_fault source xs =
     ap statement_fault (statement_is source (node.Block xs) ∙ ap (node_layer source) (node.outs-Block xs)) ∙ mapped region.Block (nodes_of (statements_of source xs))
-
-pub assign_fault : (source : List ℕ) (x : AssignTree) → node_fault source (node.Assign x) ≡ statement_fault (assignment_of source x)
-assign_fault source x = ap statement_fault (statement_is source (node.Assign x) ∙ ap (node_layer source) (node.outs-Assign x))
-
-pub empty_fault : (source : List ℕ) → node_fault source node.Empty ≡ None
-empty_fault source = ap statement_fault (statement_is source node.Empty ∙ ap (node_layer source) node.outs-Empty)
 
 -- ---- from what code shows
 
@@ -184,7 +143,3 @@ by_branch source x r e =
 pub by_then : (source : List ℕ) (x : BranchTree) (r : Option ℕ) → (out-Branch x).other ≡ None → r ≡ then_fault source x → r ≡ statement_fault (branch_of source x)
 by_then source x r n e =
     by_branch source x r (e ∙ sym (none_last (then_fault source x)) ∙ ap (λ o. first_some (then_fault source x) (other_fault source o)) (sym n))
-
-pub by_else : (source : List ℕ) (x : BranchTree) (y : Node) (r : Option ℕ) → (out-Branch x).other ≡ Some y
-    → r ≡ first_some (then_fault source x) (node_fault source y) → r ≡ statement_fault (branch_of source x)
-by_else source x y r n e = by_branch source x r (e ∙ ap (λ o. first_some (then_fault source x) (other_fault source o)) (sym n))

@@ -1,23 +1,19 @@
 -- What the forms of the tree have by the forms right below them.
-use Rattle.std.proofs.Common.{◌≡◌, refl, sym, ap, ◌∙◌, ℕ, List, [], ◌∷◌, map, Option, Some, None}
-use Rattle.c_parser.specs.declared.tree.Piece.{Piece}
+use Rattle.std.proofs.Common.{◌≡◌, refl, sym, ap, ◌∙◌, ℕ, List, [], ◌∷◌, Option, Some, None}
 use Rattle.c_parser.specs.declared.tree.UnarySign.{UnarySign}
 use Rattle.c_parser.specs.declared.tree.UnarySign.TheVariants as un
 use Rattle.c_parser.specs.declared.tree.Sum.{Sum, out-Sum}
-use Rattle.c_parser.specs.declared.tree.Value.{Value, out-Value}
-use Rattle.c_parser.specs.declared.tree.Target.{Target, out-Target}
+use Rattle.c_parser.specs.declared.tree.Value.{Value}
 use Rattle.c_parser.specs.declared.tree.Product.{Product, out-Product}
 use Rattle.c_parser.specs.declared.tree.Unary.{Unary, out-Unary}
-use Rattle.c_parser.specs.declared.tree.Primary.{Primary, out-Primary}
 use Rattle.c_parser.specs.declared.tree.Compare.{Compare, out-Compare}
 use Rattle.c_parser.specs.declared.tree.Equal.{Equal, out-Equal}
 use Rattle.c_parser.specs.declared.tree.And.{And, out-And}
 use Rattle.c_parser.specs.declared.tree.Or.{Or, out-Or}
-use Rattle.c_parser.specs.declared.tree.Arms.{Arms}
-use Rattle.region_trees.specs.Terms.{Operation, Conjunction, Disjunction, Term, Literal, Named, Call, Bracket, Signed, Joined, Choice, Terms, NoTerms, More, Located, Element, of_rel, of_equal, of_sum, of_product, all_signed, bytes_of, sum_of, value_of, target_of, product_of, unary_of, primary_of, compare_of, equal_of, and_of, or_of}
-use Rattle.region_trees.specs.Layers.{joined_by, all_by, some_by, terms_by, term_of_sum, with_arms, sum_is, product_is, unary_is, target_is, compare_is, equal_is, and_is, or_is, value_is}
+use Rattle.region_trees.specs.Terms.{Operation, Conjunction, Disjunction, Term, Joined, Located, of_rel, of_equal, of_sum, of_product, all_signed, sum_of, value_of, product_of, unary_of, primary_of, compare_of, equal_of, and_of, or_of}
+use Rattle.region_trees.specs.Layers.{joined_by, all_by, some_by, term_of_sum, sum_is, product_is, unary_is, compare_is, equal_is, and_is, or_is}
 use Rattle.region_rules.specs.declared.facts.Facts.{Facts}
-use Rattle.region_rules.specs.Facts.{facts_of, no_facts, signed, join, named_facts, name_facts, next_facts, all_facts}
+use Rattle.region_rules.specs.Facts.{facts_of, signed, join, next_facts, all_facts}
 use Rattle.region_rules.proofs.Joins.{signed_facts, joined_facts}
 
 -- ---- operands
@@ -130,20 +126,6 @@ or_facts_are source x = ap facts_of (or_is source x) ∙ items_are Disjunction (
 
 pub unary_facts_are : (source : List ℕ) (x : Unary) → unary_says source x ≡ all_signs (out-Unary x).signs (facts_of (primary_of source (out-Unary x).primary))
 unary_facts_are source x = ap facts_of (unary_is source x) ∙ signs_are (out-Unary x).signs (primary_of source (out-Unary x).primary)
-
-pub value_facts_are : (source : List ℕ) (x : Value) → facts_of (value_of source x).term ≡ facts_of (with_arms source (or_of source (out-Value x).test) (out-Value x).arms)
-value_facts_are source x = ap (λ (v : Located). facts_of v.term) (value_is source x)
-
--- a name is an expression where it has no subscripts
-named_are : (source : List ℕ) (name : List ℕ) (at : ℕ) (xs : List Sum) → facts_of (Named name at (terms_by (sum_of source) xs)) ≡ named_facts xs
-named_are source name at [] = refl
-named_are source name at (x ∷ xs) = refl
-
-pub name_facts_are : (source : List ℕ) (t : Target)
-    → facts_of (Named (target_of source t).name (target_of source t).at (target_of source t).subscripts) ≡ name_facts t
-name_facts_are source t =
-    ap (λ (e : Element). facts_of (Named e.name e.at e.subscripts)) (target_is source t)
-    ∙ named_are source (bytes_of source (out-Target t).name) (out-Target t).name.from (out-Target t).subscripts
 
 -- ---- from what loops show
 
