@@ -1,0 +1,21 @@
+//! The laws of the walk: functions that do nothing, and whose contracts are the laws.
+
+ghost use Rattle.clan_walk.specs.Laws.{WalkTranslates, WalkFinishes, WalkKeepsPlaces};
+
+/// Behind a whole region the first refusal is that of the region's translation; where there is none and
+/// the region can be printed, the pieces are those that its SCoP is printed as.
+pub fn walk_translates()
+    ensures { WalkTranslates }
+{}
+
+/// Behind a region that can be printed, the pieces can be assembled where nothing was refused, and give
+/// the region's SCoP.
+pub fn walk_finishes()
+    ensures { WalkFinishes }
+{}
+
+/// Behind a statement the names, loops and layers are as before it, and its assignments were counted, up
+/// to one above the limit.
+pub fn walk_keeps_places()
+    ensures { WalkKeepsPlaces }
+{}
