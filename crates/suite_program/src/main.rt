@@ -2,32 +2,11 @@
 //! with the status of its outcome.
 #![tactic(auto)]
 
-#[cfg(test)]
-mod adapter_tests;
-mod adapters;
-mod commands;
-mod file_words;
-mod first_form;
-mod messages;
-mod names;
-mod outcomes;
-mod readings;
-mod runs;
-mod script_runs;
-#[cfg(test)]
-mod test_runs;
-#[cfg(test)]
-mod tests;
-mod top;
-mod translations;
-
-use adapters::{RealFiles, RealInput, RealOutput};
-use outcomes::{Outcome, status};
 use std::env;
 use std::io::ErrorKind;
 use std::process::ExitCode;
 use suite_base::{NoMemory, WordList};
-use top::suite;
+use suite_cli::{Outcome, RealFiles, RealInput, RealOutput, status, suite};
 
 fn main(rt: HostRuntime) -> ExitCode {
     let outcome = match program_words(&rt) {

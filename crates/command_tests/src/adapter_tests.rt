@@ -1,10 +1,10 @@
 //! The adapters over readers and writers in memory, and over a file of the system.
 
-use crate::adapters::{RealFiles, RealInput, RealOutput};
 use std::fs;
 use std::process::Abort;
 use std::test::Fail;
 use suite_base::{Failed, Files, Sink, Source, read_file, write_all};
+use suite_cli::{RealFiles, RealInput, RealOutput};
 
 #[test]
 fn input_adapter_reads(rt: HostRuntime) -> Result<(), Fail> {

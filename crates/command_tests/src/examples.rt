@@ -1,0 +1,43 @@
+//! Each command on files that it takes.
+
+use crate::texts::{
+    DOWNWARD_LOOP_BLOCK, DOWNWARD_LOOP_SCOP, ONE_LOOP, ONE_LOOP_SCOP, STENCIL_SCOP, STENCIL_TILED,
+    TILE_TWO,
+};
+
+/// A command, the texts of its files, and what it prints.
+#[derive(Clone, Copy, Debug)]
+pub struct Example {
+    pub command: &'static str,
+    pub texts: &'static [&'static [u8]],
+    pub output: &'static [u8],
+}
+
+/// Every command once.
+pub const EXAMPLES: [Example; 5] = [
+    Example {
+        command: "clan",
+        texts: &[ONE_LOOP],
+        output: ONE_LOOP_SCOP,
+    },
+    Example {
+        command: "scop",
+        texts: &[ONE_LOOP_SCOP],
+        output: ONE_LOOP_SCOP,
+    },
+    Example {
+        command: "candl",
+        texts: &[DOWNWARD_LOOP_SCOP],
+        output: DOWNWARD_LOOP_BLOCK,
+    },
+    Example {
+        command: "audit",
+        texts: &[DOWNWARD_LOOP_BLOCK],
+        output: b"systems 3 kept 1 dropped 2\n",
+    },
+    Example {
+        command: "clay",
+        texts: &[TILE_TWO, STENCIL_SCOP],
+        output: STENCIL_TILED,
+    },
+];

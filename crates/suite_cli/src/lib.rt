@@ -1,0 +1,21 @@
+//! The suite over any files, sources and sinks: the program's words, its runs and its messages, and the adapters over the
+//! system's streams and files.
+#![tactic(auto)]
+
+mod adapters;
+mod commands;
+mod file_words;
+mod first_form;
+mod messages;
+mod names;
+mod outcomes;
+mod readings;
+mod runs;
+mod script_runs;
+mod top;
+mod translations;
+
+pub use adapters::{RealFiles, RealInput, RealOutput};
+pub use commands::{Work, read_words};
+pub use outcomes::{Outcome, status};
+pub use top::suite;
