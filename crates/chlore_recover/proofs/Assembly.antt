@@ -150,32 +150,32 @@ led O T x =
     let R : List (List ℕ) = ranked 0 (map length (sorted O)) in
     let one : IsMove n A (drafted O) (sorted O) R = moves n A (drafted O) (sorted O) R o.tree (subst (λ z. HaveSame z (sorted O)) (sym (drafted_betas O)) o.same) (fissions_apart (sorted O) to) in
     let f : List ℕ → List ℕ = one.move in
-    let D1 : Draft = map (moved f) (drafted O) in
-    let D2 : Draft = alone O T f in
-    let two : Leads n B D1 D2 = record {
-      unrefused = λ i. (all_levels_are_led n i 0 O T (in_beta_order O) D1 (await_all O T x f one.is)).0;
-      drafts = (all_levels_are_led n 0 0 O T (in_beta_order O) D1 (await_all O T x f one.is)).1;
+    let after_fissions : Draft = map (moved f) (drafted O) in
+    let after_levels : Draft = alone O T f in
+    let two : Leads n B after_fissions after_levels = record {
+      unrefused = λ i. (all_levels_are_led n i 0 O T (in_beta_order O) after_fissions (await_all O T x f one.is)).0;
+      drafts = (all_levels_are_led n 0 0 O T (in_beta_order O) after_fissions (await_all O T x f one.is)).1;
     } in
-    let same2 : HaveSame (betas_of D2) R = subst (λ z. HaveSame z R) (sym (alone_betas O T f)) (subst (HaveSame (map f V)) (sym one.is) (map_same f V (sorted O) o.same)) in
+    let levels_same : HaveSame (betas_of after_levels) R = subst (λ z. HaveSame z R) (sym (alone_betas O T f)) (subst (HaveSame (map f V)) (sym one.is) (map_same f V (sorted O) o.same)) in
     let c1 = length-map (sorted O) length in
     let c2 = o.long in
     let sizes : length (map length (sorted O)) ≡ length V = omega arith in
     let permutes : is_permutation_of (length (map length (sorted O))) (order_of O T) ≡ true =
     permutation_of_orders (length (map length (sorted O))) (order_of O T) (subst (λ k. Orders k (order_of O T)) (sym sizes) (order_orders V (vectors_in T) (let e : length V ≡ length (vectors_in T) = omega arith in e))) in
-    let three : IsMove n C D2 R (placed_from 0 (order_of O T) (map length (sorted O))) =
-    moves n C D2 R (placed_from 0 (order_of O T) (map length (sorted O))) (apart_tree (sorted O) to) same2 (reorder_leads (order_of O T) (map length (sorted O)) (omega arith) permutes) in
+    let three : IsMove n C after_levels R (placed_from 0 (order_of O T) (map length (sorted O))) =
+    moves n C after_levels R (placed_from 0 (order_of O T) (map length (sorted O))) (apart_tree (sorted O) to) levels_same (reorder_leads (order_of O T) (map length (sorted O)) (omega arith) permutes) in
     let g : List ℕ → List ℕ = three.move in
-    let D3 : Draft = map (moved g) D2 in
+    let after_reorder : Draft = map (moved g) after_levels in
     let S : List (List ℕ) = ranked 0 (map length (sorted T)) in
-    let betas3 : betas_of D3 ≡ map g (map f V) = led_betas g D2 ∙ ap (map g) (alone_betas O T f) in
-    let same3 : HaveSame (betas_of D3) S = subst (λ z. HaveSame z S) (sym betas3) (record { there = last_there O T x f g one.is three.is; back = last_back O T x f g one.is three.is }) in
-    let four : IsMove n E D3 S (sorted T) = moves n E D3 S (sorted T) (apart_tree (sorted T) tr) same3 (fuses_back (sorted T) tr) in
-    let D4 : Draft = map (moved four.move) D3 in
+    let reorder_betas : betas_of after_reorder ≡ map g (map f V) = led_betas g after_levels ∙ ap (map g) (alone_betas O T f) in
+    let reorder_same : HaveSame (betas_of after_reorder) S = subst (λ z. HaveSame z S) (sym reorder_betas) (record { there = last_there O T x f g one.is three.is; back = last_back O T x f g one.is three.is }) in
+    let four : IsMove n E after_reorder S (sorted T) = moves n E after_reorder S (sorted T) (apart_tree (sorted T) tr) reorder_same (fuses_back (sorted T) tr) in
+    let after_fuses : Draft = map (moved four.move) after_reorder in
     record {
       f = f;
       g = g;
       h = four.move;
-      leads = leads_on n (A ++ B ++ C) E (drafted O) D3 D4 (leads_on n (A ++ B) C (drafted O) D2 D3 (leads_on n A B (drafted O) D1 D2 one.leads two) three.leads) four.leads;
+      leads = leads_on n (A ++ B ++ C) E (drafted O) after_reorder after_fuses (leads_on n (A ++ B) C (drafted O) after_levels after_reorder (leads_on n A B (drafted O) after_fissions after_levels one.leads two) three.leads) four.leads;
       ranks = one.is;
       seats = three.is;
       ends = four.is;
