@@ -1,0 +1,10 @@
+pub mod Counts
+pub mod Pieces
+pub mod RowEnds
+pub mod Endings
+pub mod Skewing
+pub mod Exchanges
+pub mod LevelSteps
+pub mod PassSteps
+pub mod Ready
+pub mod Wholes

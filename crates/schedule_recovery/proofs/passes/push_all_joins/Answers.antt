@@ -1,0 +1,9 @@
+use Rattle.chlore_recover.specs.Orders.{vectors_of}
+use Rattle.schedule_recovery.proofs.PassSteps.{joins_more}
+use Rattle.schedule_recovery.proofs.passes.push_all_joins.Goals as goal
+
+pub loop-k-preserved : goal.loop-k-preserved
+loop-k-preserved c = record {
+  script = joins_more c.loop-k.k 24 c.args.first.now (vectors_of c.args.rest.now) c.loop-k.script _ _ c.loop-k-test.true c.in_ok-push_joins.ensures c.loop-k.invariant.script;
+  short = c.in_ok-check_length.ensures.ok;
+}

@@ -1,0 +1,6 @@
+use Rattle.chlore_recover.specs.Orders.{vectors_of}
+use Rattle.schedule_recovery.proofs.PassSteps.{pass_more}
+use Rattle.schedule_recovery.proofs.passes.push_all_parts.Goals as goal
+
+pub loop-size-preserved : goal.loop-size-preserved
+loop-size-preserved c = pass_more c.loop-size.size c.args.first.now (vectors_of c.args.rest.now) c.loop-size.script _ _ c.loop-size-test.true c.in_ok-push_parts.ensures c.loop-size.invariant
