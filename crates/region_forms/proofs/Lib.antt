@@ -4,3 +4,6 @@ pub mod Leaves
 pub mod Digits
 pub mod Operands
 pub mod Tests
+pub mod BoundTerms
+pub mod BoundTrees
+pub mod LoopHeads

@@ -1,2 +1,3 @@
 pub mod Evaluations
 pub mod Conditions
+pub mod Bounds

@@ -237,7 +237,7 @@ fn asked(truth: bool, comparison: Comparison) -> Comparison
     }
 }
 
-// What the sign of an equality means, and that of a comparison of order.
+// What the sign of an equality means.
 fn equality(sign: EqualSign) -> Comparison
     ensures { of_equal sign ≡ Compares (meaning_of result) }
 {
@@ -247,8 +247,8 @@ fn equality(sign: EqualSign) -> Comparison
     }
 }
 
-/// The comparison of a loop's head.
-pub fn order(rel: Rel) -> Comparison
+// What the sign of a comparison of order means.
+fn order(rel: Rel) -> Comparison
     ensures { order_of rel ≡ meaning_of result }
 {
     match rel {
