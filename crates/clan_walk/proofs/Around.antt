@@ -2,18 +2,18 @@
 use Rattle.std.proofs.Common.{◌≡◌, ℕ, ◌+◌, ◌*◌, ◌≤◌, List, [], ◌∷◌, ◌++◌, length, map, Bool, true, false, ◌&&◌, refl, sym, ◌∙◌, ap, arith}
 use Rattle.std.proofs.lemmas.List.{length-map}
 use Rattle.clan_extract.specs.Regions.{Condition, Assignment}
-use Rattle.clan_extract.specs.Placements.{Head, Round, Loop, Test, Placed, loop_names}
+use Rattle.clan_extract.specs.Placements.{Head, Round, Loop, Test, loop_names}
 use Rattle.clan_extract.specs.Constraints.{Constraint, joined, loop_constraints, parts_of_condition, parts_of}
 use Rattle.clan_extract.specs.Counts.{Count, one_part, crossed, loop_count, condition_count, rounds_count}
 use Rattle.clan_extract.specs.Scops.{part}
 use Rattle.clan_extract.specs.Refusals.{forms_fit, condition_fits, rounds_fit}
 use Rattle.clan_extract.specs.RowRanges.{constraints_fit, comparisons_fit, constraints_of_rounds_fit}
-use Rattle.clan_extract.proofs.StatementPieces.{some_condition, some_parts}
+use Rattle.clan_extract.proofs.StatementPieces.{some_parts}
 use Rattle.clan_extract.proofs.Counts.{parts_are_counted}
 use Rattle.clan_extract.proofs.OutsideIn.{joined_right, parts_inside, forms_inside, rows_inside, counts_inside}
 use Rattle.clan_rows.specs.Layers.{LayerData, layer, loop_layer, condition_layer, crossed_layers}
 use Rattle.clan_walk.specs.Walk.{no_layer}
-use Rattle.clan_walk.proofs.Crossings.{crossed_is}
+use Rattle.clan_rows.proofs.LayerLaws.{crossed_is}
 
 module _ (parameters : List (List ℕ)) where
   -- what these loops and conditions ask

@@ -2,8 +2,6 @@
 use Rattle.std.proofs.Common.{◌≡◌, ℕ, ◌+◌, ◌≤◌, ◌<◌, List, [], ◌∷◌, ◌++◌, length, map, Bool, true, false, ◌&&◌, not, cond, refl, sym, ◌∙◌, ap, arith, ℤ, pos}
 use Rattle.std.specs.Prelude.{min, nat_lt, nat_le, Option, None, Some, if◌then◌else◌, is_none}
 use Rattle.std.proofs.lemmas.Bool.Decides.{Decides-ltb}
-use Rattle.std.proofs.lemmas.Bool.{le-leb, leb-true}
-use Rattle.std.proofs.lemmas.List.{map_push}
 use Rattle.suite_base.specs.declared.refusals.Refusal.{Refusal}
 use Rattle.suite_base.specs.declared.refusals.Refusal.TheVariants.{Limit, TooManyParts, Overflow}
 use Rattle.suite_base.specs.declared.refusals.Which.TheVariants.{Locals, Rows, Accesses as AccessCount, Subscripts}
@@ -17,22 +15,22 @@ use Rattle.scop_data.specs.declared.raw_pieces.RawStatement.{RawStatement}
 use Rattle.scop_data.specs.Pieces.{statement_pieces}
 use Rattle.scop_core.specs.declared.limits.PartCount.TheVariants.{LocalCount, RowCount}
 use Rattle.scop_core.specs.Assembly.{or_else, some_above}
-use Rattle.scop_core.proofs.ReadBackPieces.{at_most, if_none, not_above, neither}
+use Rattle.scop_core.proofs.ReadBackPieces.{if_none, not_above, neither}
 use Rattle.clan_extract.specs.Regions.{Reference, Assignment}
 use Rattle.clan_extract.specs.Placements.{Round, Placed, loop_names, directions}
 use Rattle.clan_extract.specs.Constraints.{Constraint, parts_of}
 use Rattle.clan_extract.specs.Counts.{Count, rounds_count, HasCounts}
 use Rattle.clan_extract.specs.Scops.{locals_in, part, levels, references_read, accesses, statement}
-use Rattle.clan_extract.specs.Refusals.{fits, rounds_fit, references_fit, domain_fits, subscripts_above, statement_refusal}
+use Rattle.clan_extract.specs.Refusals.{fits, rounds_fit, references_fit, subscripts_above, statement_refusal}
 use Rattle.clan_extract.specs.RowRanges.{constraints_of_rounds_fit}
 use Rattle.clan_extract.proofs.Forms.{both_true}
 use Rattle.clan_extract.proofs.Counts.{parts_are_counted}
 use Rattle.clan_extract.proofs.RowRanges.{rows_fit_once}
 use Rattle.clan_rows.specs.Fitting.{checked_form}
-use Rattle.clan_rows.specs.Layers.{LayerData, layer, within}
+use Rattle.clan_rows.specs.Layers.{LayerData, within}
 use Rattle.clan_walk.specs.declared.gathering.Accesses.{Accesses}
 use Rattle.clan_walk.specs.declared.turns.Turn.{Turn}
-use Rattle.clan_walk.specs.Walk.{State, no_accesses, are_narrow, are_fine, with_access, last_or, no_layer, is_making, signs, assignment_refusal, refusal_here, pieces_here, statement_at, counted, assigned, referred, read}
+use Rattle.clan_walk.specs.Walk.{State, no_accesses, are_narrow, are_fine, with_access, last_or, no_layer, signs, assignment_refusal, refusal_here, pieces_here, statement_at, assigned, referred, read}
 use Rattle.clan_walk.proofs.Around.{fits_of, rounds_layer}
 use Rattle.clan_walk.proofs.Gathered.{bare, summed, gathered, all_gathered, le_not_lt}
 use Rattle.clan_walk.proofs.Takings.{Taken, betas_of, can_take, refusal_then, pieces_then, take, place_with, place}

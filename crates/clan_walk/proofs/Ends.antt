@@ -1,9 +1,8 @@
 -- Behind a whole region: its first refusal, or the pieces of its SCoP.
-use Rattle.std.proofs.Common.{◌≡◌, inl, inr, ℕ, ◌+◌, ◌≤◌, List, [], ◌∷◌, ◌++◌, length, map, Bool, true, false, ◌&&◌, not, cond, refl, sym, ◌∙◌, ap, subst, arith, append_assoc, pos}
+use Rattle.std.proofs.Common.{◌≡◌, inl, inr, ℕ, ◌+◌, ◌≤◌, List, [], ◌∷◌, ◌++◌, length, map, Bool, true, ◌&&◌, not, cond, refl, sym, ◌∙◌, ap, subst, arith, append_assoc, pos}
 use Rattle.std.specs.Prelude.{min, nat_lt, nat_le, Option, None, Some, if◌then◌else◌, codes, is_none}
 use Rattle.std.proofs.lemmas.Bool.Decides.{Decides-ltb}
-use Rattle.std.proofs.lemmas.Bool.{le-leb, leb-true}
-use Rattle.std.proofs.lemmas.List.{length-append, length-map, map-append}
+use Rattle.std.proofs.lemmas.Bool.{le-leb}
 use Rattle.suite_base.specs.declared.refusals.Refusal.{Refusal}
 use Rattle.suite_base.specs.declared.refusals.Refusal.TheVariants.{Limit}
 use Rattle.suite_base.specs.declared.refusals.Which.TheVariants.{Statements, Parameters, Arrays}
@@ -15,21 +14,21 @@ use Rattle.scop_core.specs.Assembly.{or_else}
 use Rattle.scop_core.specs.Assembly as assembly
 use Rattle.scop_core.specs.Printable.{IsPrintable}
 use Rattle.scop_core.specs.ReadBack.{ReadBack}
-use Rattle.scop_core.proofs.ReadBackPieces.{at_most, not_above, if_none, or_none}
+use Rattle.scop_core.proofs.ReadBackPieces.{at_most, if_none, or_none}
 use Rattle.clan_extract.specs.Regions.{Nodes, numbered, names_if_any}
 use Rattle.clan_extract.specs.Placements.{Placed, placed_all, children_of_all, loop_names}
 use Rattle.clan_extract.specs.Refusals.{statement_refusal, statements_refusal, whole_refusal, refusal_of}
-use Rattle.clan_extract.specs.ReadBack.{IsPrintablePlaced, IsPrintableRegion}
+use Rattle.clan_extract.specs.ReadBack.{IsPrintableRegion}
 use Rattle.clan_extract.specs.Scops.{statement, scop_of}
-use Rattle.clan_extract.proofs.OutsideIn.{inside, inside_nothing}
+use Rattle.clan_extract.proofs.OutsideIn.{inside_nothing}
 use Rattle.clan_extract.proofs.ReadBacks.{scop_reads_back}
-use Rattle.clan_walk.specs.Walk.{State, start, walk_of, refusal_at_end, pieces_at_end}
-use Rattle.clan_walk.specs.Laws.{IsTranslated, WalkTranslates, CanFinish, WalkFinishes, assignments_in, Keeps, WalkKeepsPlaces}
+use Rattle.clan_walk.specs.Walk.{start, walk_of, refusal_at_end, pieces_at_end}
+use Rattle.clan_walk.specs.Laws.{WalkTranslates, WalkFinishes, WalkKeepsPlaces}
 use Rattle.clan_walk.proofs.Around.{none_around}
 use Rattle.clan_walk.proofs.Gathered.{le_not_lt}
 use Rattle.clan_walk.proofs.Kept.{placed_all_count, walk_keeps, walk_keeps_all}
 use Rattle.clan_walk.proofs.Takings.{Taken, can_take, refusal_then, pieces_then, take, take_all, place}
-use Rattle.clan_walk.proofs.Assignments.{clip_test, IsRound}
+use Rattle.clan_walk.proofs.Assignments.{clip_test}
 use Rattle.clan_walk.proofs.Walks.{walk_all_is}
 
 or_nothing : (r : Option Refusal) → or_else r None ≡ r

@@ -1,6 +1,6 @@
 -- The accesses of an assignment, gathered one by one.
 use Rattle.std.proofs.Common.{◌≡◌, ℕ, ◌+◌, ◌≤◌, ◌<◌, List, [], ◌∷◌, ◌++◌, length, map, Bool, true, false, ◌&&◌, ◌||◌, not, cond, refl, sym, ◌∙◌, ap, arith, append_assoc}
-use Rattle.std.specs.Prelude.{min, nat_le, nat_lt, Option, None, Some, ℤ, filter}
+use Rattle.std.specs.Prelude.{min, nat_le, nat_lt, Option, None, Some, ℤ}
 use Rattle.std.proofs.lemmas.Bool.Decides.{Decides-ltb}
 use Rattle.std.proofs.lemmas.Bool.{le-leb, leb-true}
 use Rattle.std.proofs.lemmas.List.{length-append, length-map}
@@ -8,7 +8,7 @@ use Rattle.scop_data.specs.declared.affines.Affine.{Affine}
 use Rattle.scop_data.specs.declared.accesses.Access.{Access}
 use Rattle.scop_data.specs.declared.accesses.AccessKind.{AccessKind}
 use Rattle.scop_data.specs.declared.accesses.AccessKind.TheVariants.{Read, Write}
-use Rattle.clan_extract.specs.Regions.{Expression, Reference, Assignment, is_empty, is_among, is_plain, is_array, array_references, number_in}
+use Rattle.clan_extract.specs.Regions.{Expression, Reference, Assignment, is_empty, is_among, array_references, number_in}
 use Rattle.clan_extract.specs.Forms.{form}
 use Rattle.clan_extract.specs.Scops.{access, references_read, accesses}
 use Rattle.clan_extract.specs.Refusals.{forms_fit, all_fit as all_forms_fit, references_fit, subscripts_above}

@@ -4,7 +4,7 @@ use Rattle.std.specs.Prelude.{min, nat_lt}
 use Rattle.std.proofs.lemmas.Bool.Decides.{Decides-ltb}
 use Rattle.std.proofs.lemmas.List.{length-append, length-map}
 use Rattle.clan_extract.specs.Regions.{Reference, Node, For, If, Block, Assign, Nodes, NoNodes, Then}
-use Rattle.clan_extract.specs.Placements.{Placed, Head, placed, placed_all, children, children_of_all, in_loop, in_test}
+use Rattle.clan_extract.specs.Placements.{Placed, placed, placed_all, children, children_of_all, in_loop, in_test}
 use Rattle.clan_extract.specs.Scops.{references_read}
 use Rattle.clan_rows.specs.Layers.{LayerData, loop_layer, condition_layer, crossed_layers}
 use Rattle.scop_core.specs.Assembly.{or_else}

@@ -1,8 +1,11 @@
-pub mod Crossings
 pub mod Around
 pub mod Gathered
 pub mod Kept
+pub mod Placed
 pub mod Takings
 pub mod Assignments
 pub mod Walks
 pub mod Ends
+pub mod Columns
+pub mod Scattered
+pub mod Numbers

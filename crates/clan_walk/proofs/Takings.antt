@@ -1,5 +1,5 @@
 -- Assignments taken one after the other, with what stands round each of them.
-use Rattle.std.proofs.Common.{◌≡◌, ℕ, ◌+◌, ◌≤◌, List, [], ◌∷◌, ◌++◌, length, map, Bool, ◌&&◌, cond, refl, ◌∙◌, arith}
+use Rattle.std.proofs.Common.{◌≡◌, ℕ, ◌+◌, List, [], ◌∷◌, ◌++◌, length, map, Bool, ◌&&◌, cond, refl, ◌∙◌, arith}
 use Rattle.std.specs.Prelude.{nat_lt, nat_le, Option, None, is_none}
 use Rattle.suite_base.specs.declared.refusals.Refusal.{Refusal}
 use Rattle.scop_data.specs.declared.raw_pieces.RawStatement.{RawStatement}

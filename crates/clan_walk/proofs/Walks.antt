@@ -9,10 +9,10 @@ use Rattle.clan_extract.proofs.TurnSteps.{append_nothing}
 use Rattle.clan_extract.proofs.OutsideIn.{inside, into_loop, into_branches, at_assignment, along_list, names_inside, directions_inside}
 use Rattle.clan_rows.specs.Layers.{LayerData, loop_layer, condition_layer, crossed_layers}
 use Rattle.clan_walk.specs.declared.turns.Turn.{Turn}
-use Rattle.clan_walk.specs.Walk.{State, last_or, without_last, no_layer, signs, sign, direction_by, next_behind, entered_loop, left_loop, entered_branch, left_branch, walked, walked_all}
+use Rattle.clan_walk.specs.Walk.{State, last_or, without_last, no_layer, sign, direction_by, next_behind, entered_loop, left_loop, entered_branch, left_branch, walked, walked_all}
 use Rattle.clan_walk.proofs.Around.{rounds_layer, loop_further, test_further}
 use Rattle.clan_walk.proofs.Kept.{without_end, end_is}
-use Rattle.clan_walk.proofs.Takings.{Taken, betas_of, take, take_all, take_append, take_number, place}
+use Rattle.clan_walk.proofs.Takings.{Taken, betas_of, take_all, take_append, take_number, place}
 use Rattle.clan_walk.proofs.Assignments.{IsRound, assignment_is}
 
 sign_is : (comparison : Comparison) → sign (direction_by comparison) ≡ direction comparison
@@ -23,7 +23,7 @@ sign_is IsGreaterOrEqual = refl
 sign_is IsEqual = refl
 sign_is IsUnequal = refl
 
-next_at_end : (next : ℕ) (turns : List Turn) (t : Turn) → next_behind next (turns ++ t ∷ []) ≡ t.beta + min next 1
+pub next_at_end : (next : ℕ) (turns : List Turn) (t : Turn) → next_behind next (turns ++ t ∷ []) ≡ t.beta + min next 1
 next_at_end next [] t = refl
 next_at_end next (u ∷ []) t = refl
 next_at_end next (u ∷ (v ∷ turns)) t = next_at_end next (v ∷ turns) t

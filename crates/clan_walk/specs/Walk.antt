@@ -6,7 +6,6 @@ use Rattle.suite_base.specs.declared.refusals.Refusal.TheVariants.{Limit, TooMan
 use Rattle.suite_base.specs.declared.refusals.Which.TheVariants.{Statements, Parameters, Locals, Rows, Accesses as AccessCount, Subscripts, Arrays}
 use Rattle.suite_base.specs.declared.refusals.Where.TheVariants.{Statement as OfStatement}
 use Rattle.scop_data.specs.declared.affines.Affine.{Affine}
-use Rattle.scop_data.specs.declared.accesses.Access.{Access}
 use Rattle.scop_data.specs.declared.accesses.AccessKind.{AccessKind}
 use Rattle.scop_data.specs.declared.accesses.AccessKind.TheVariants.{Read, Write}
 use Rattle.scop_data.specs.declared.statements.Statement.{Statement}
