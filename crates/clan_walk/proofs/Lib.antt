@@ -9,3 +9,4 @@ pub mod Ends
 pub mod Columns
 pub mod Scattered
 pub mod Numbers
+pub mod Skips

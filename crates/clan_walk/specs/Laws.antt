@@ -1,5 +1,5 @@
 -- The walk over a region gives the region's SCoP or its first refusal.
-use Rattle.std.specs.Prelude.{◌≡◌, ◌≤◌, ◌+◌, ℕ, min, List, None}
+use Rattle.std.specs.Prelude.{◌≡◌, ◌≤◌, ◌+◌, ℕ, min, List, None, false}
 use Rattle.scop_data.specs.Pieces.{pieces_of}
 use Rattle.scop_core.specs.Assembly as assembly
 use Rattle.scop_core.specs.Printable.{IsPrintable}
@@ -7,7 +7,7 @@ use Rattle.clan_extract.specs.Regions.{Node, For, If, Block, Assign, Nodes, NoNo
 use Rattle.clan_extract.specs.Refusals.{refusal_of}
 use Rattle.clan_extract.specs.ReadBack.{IsPrintableRegion}
 use Rattle.clan_extract.specs.Scops.{scop_of}
-use Rattle.clan_walk.specs.Walk.{State, walked, walked_all, walk_of, refusal_at_end, pieces_at_end}
+use Rattle.clan_walk.specs.Walk.{State, no_accesses, is_open, walked, walked_all, walk_of, refusal_at_end, pieces_at_end}
 
 -- behind a whole region the first refusal is that of its translation, and without one the pieces are those that its SCoP is printed as
 pub record IsTranslated (parameters arrays : List (List ℕ)) (region : Nodes) : Type 0 where
@@ -52,3 +52,17 @@ pub record Keeps (s t : State) (count : ℕ) : Type 0 where
 
 abbrev pub WalkKeepsPlaces : Type 0
 WalkKeepsPlaces = ((node : Node) (s : State) → Keeps s (walked node s) (assignments node)) × ((nodes : Nodes) (s : State) → Keeps s (walked_all nodes s) (assignments_in nodes))
+
+-- without an assignment nothing changes, where no accesses are at hand
+abbrev pub WalkSkipsEmpty : Type 0
+WalkSkipsEmpty = ((node : Node) (s : State) → assignments node ≡ 0 → s.accesses ≡ no_accesses → walked node s ≡ s)
+    × ((nodes : Nodes) (s : State) → assignments_in nodes ≡ 0 → s.accesses ≡ no_accesses → walked_all nodes s ≡ s)
+
+-- where no statement is made any more, none is made later, and nothing is refused but the whole
+pub record StaysClosed (s t : State) : Type 0 where
+  pub closed : is_open t ≡ false
+  pub statements : t.statements ≡ s.statements
+  pub refusal : t.refusal ≡ s.refusal
+
+abbrev pub WalkStaysClosed : Type 0
+WalkStaysClosed = ((node : Node) (s : State) → is_open s ≡ false → StaysClosed s (walked node s)) × ((nodes : Nodes) (s : State) → is_open s ≡ false → StaysClosed s (walked_all nodes s))
