@@ -1,7 +1,5 @@
 -- The trees of which the bound is that of a value.
 use Rattle.std.proofs.Common.{◌≡◌, ◌∙◌, ℕ, List, [], ◌∷◌, refl, ap, sym, subst}
-use Rattle.c_parser.specs.declared.tree.Primary.{Primary}
-use Rattle.c_parser.specs.declared.tree.Primary.TheVariants as pri
 use Rattle.c_parser.specs.declared.tree.Product.{out-Product}
 use Rattle.c_parser.specs.declared.tree.Sum.{Sum, out-Sum}
 use Rattle.c_parser.specs.declared.tree.Unary.{Unary, out-Unary}
@@ -15,7 +13,8 @@ use Rattle.region_forms.proofs.Trees.{joined_ends, not_empty_head}
 abbrev pub BoundsAsValue : Term → Type 0
 BoundsAsValue t = bound_of t ≡ expression_of t
 
-signed_ends : (P : Term → Type 0) (signs : List UnarySign) (t : Term) → ¬ (signs ≡ []) → ((sign : UnarySign) (of : Term) → P (Signed sign of)) → P (all_signed signs t)
+signed_ends : (P : Term → Type 0) (signs : List UnarySign) (t : Term) → ¬ (signs ≡ []) → ((sign : UnarySign) (of : Term) → P (Signed sign of))
+    → P (all_signed signs t)
 signed_ends P [] t some h = absurd (some refl)
 signed_ends P (sign ∷ signs) t some h = h sign (all_signed signs t)
 
@@ -41,12 +40,14 @@ module _ (source : List ℕ) (x : Sum) where
       (sym (alone none ∙ product_is source y ∙ ap (joined_by of_product (unary_of source) (unary_of source (out-Product y).first)) more.2))
       (joined_ends BoundsAsValue of_product (unary_of source) (unary_of source (out-Product y).first) more.0 more.1 (λ s l r. refl))
 
-  lone : (out-Sum x).rest ≡ [] → (out-Product (out-Sum x).first).rest ≡ [] → term_of_sum source x ≡ all_signed (out-Unary first).signs (primary_of source (out-Unary first).primary)
+  lone : (out-Sum x).rest ≡ [] → (out-Product (out-Sum x).first).rest ≡ []
+      → term_of_sum source x ≡ all_signed (out-Unary first).signs (primary_of source (out-Unary first).primary)
   lone none single =
       let y = (out-Sum x).first in
       alone none ∙ product_is source y ∙ ap (joined_by of_product (unary_of source) (unary_of source (out-Product y).first)) single ∙ unary_is source first
 
-  pub signs_before : (out-Sum x).rest ≡ [] → (out-Product (out-Sum x).first).rest ≡ [] → ¬ ((out-Unary first).signs ≡ []) → BoundsAsValue (term_of_sum source x)
+  pub signs_before : (out-Sum x).rest ≡ [] → (out-Product (out-Sum x).first).rest ≡ [] → ¬ ((out-Unary first).signs ≡ [])
+      → BoundsAsValue (term_of_sum source x)
   signs_before none single some =
       subst BoundsAsValue (sym (lone none single)) (signed_ends BoundsAsValue (out-Unary first).signs _ some (λ s t. refl))
 

@@ -1,6 +1,6 @@
 -- The layer of a loop, by its bounds and its stride.
 use Rattle.std.proofs.Common.{◌≡◌, ◌∙◌, ℕ, List, [], ◌∷◌, Bool, true, false, cond, Option, Some, None, refl, ap, sym, subst, arith, inl, inr}
-use Rattle.std.specs.Prelude.{◌^◌, ◌&&◌, ◌||◌, ℤ, pos, neg_ℤ, nat_eq, nat_lt, unsigned_abs, bytes_eq, codes}
+use Rattle.std.specs.Prelude.{◌^◌, ◌&&◌, ◌||◌, ℤ, nat_eq, nat_lt, unsigned_abs, bytes_eq, codes}
 use Rattle.std.proofs.lemmas.Bool.{ltb-false}
 use Rattle.std.proofs.lemmas.Bool.Decides.{eqb_tells}
 use Rattle.std.proofs.lemmas.Int.{ints}
@@ -19,7 +19,7 @@ use Rattle.clan_rows.proofs.BoundLaws.{loop_is}
 use Rattle.clan_rows.proofs.LayerLaws.{false_is_not_true}
 use Rattle.region_trees.specs.Regions.{bound_of, bounds_of, divisor_in, expression_of, is_bound, is_short, is_start, is_step, of_two, option_map2, quotient}
 use Rattle.region_trees.specs.Terms.{Located, Term, Integer, Literal, Named, Call, Bracket, Signed, Joined, Choice, Terms, NoTerms, More}
-use Rattle.region_forms.specs.Bounds.{IsBound, IsHeadOf, IsLoop, IsStride, bounds_on, is_unit, opposite}
+use Rattle.region_forms.specs.Bounds.{IsBound, IsLoop, IsStride, bounds_on, is_unit}
 use Rattle.region_forms.specs.Evaluations.{EvaluationData, IsValue}
 use Rattle.region_forms.proofs.BoundTerms.{both_hold}
 use Rattle.region_forms.proofs.Values.{made_of}

@@ -6,7 +6,7 @@ ghost use Rattle.clan_rows.specs.Contents.{said};
 ghost use Rattle.clan_rows.specs.Fitting.{in_range};
 ghost use Rattle.region_forms.specs.Bounds as spec;
 ghost use Rattle.region_trees.specs.Statements.{step_of};
-ghost use Rattle.region_trees.specs.Terms.{number_of, order_of};
+ghost use Rattle.region_trees.specs.Terms.{order_of};
 
 use crate::bounds::{Reach, with_sum};
 use crate::evaluations::span;

@@ -1,9 +1,10 @@
-use Rattle.std.proofs.Common.{◌≡◌, ◌∙◌, ℕ, List, [], ◌∷◌, length, Bool, true, false, Option, Some, None, ap, refl, sym, subst, rules, arith, inl, inr}
+use Rattle.std.proofs.Common.{◌≡◌, ◌∙◌, ℕ, List, [], ◌∷◌, length, true, false, Option, Some, None, ap, refl, sym, subst, rules, arith, inl, inr}
 use Rattle.std.specs.Prelude.{◌==◌}
 use Rattle.std.specs.Option.{is_some}
 use Rattle.std.proofs.lemmas.Bool.{eqb-true}
 use Rattle.c_parser.specs.declared.tree.And.{And, out-And}
 use Rattle.c_parser.specs.declared.tree.Arms.{Arms}
+use Rattle.c_parser.specs.declared.tree.Piece.{Piece}
 use Rattle.c_parser.specs.declared.tree.Product.{out-Product}
 use Rattle.c_parser.specs.declared.tree.Sum.{Sum, out-Sum}
 use Rattle.c_parser.specs.declared.tree.Unary.{out-Unary}
@@ -12,18 +13,18 @@ use Rattle.c_parser.specs.declared.tree.Primary.{Primary}
 use Rattle.c_parser.specs.declared.tree.Primary.TheVariants as pri
 use Rattle.c_parser.specs.declared.tree.EqualSign.{EqualSign}
 use Rattle.c_parser.specs.declared.tree.EqualSign.TheVariants as eq
-use Rattle.clan_extract.specs.Regions.{Expression}
+use Rattle.clan_extract.specs.Regions.{Maximum, Minimum, Ceiling, Floor}
 use Rattle.clan_rows.specs.declared.bounds.Bounds.{Bounds}
 use Rattle.clan_rows.specs.Contents.{bounds_of}
 use Rattle.region_trees.specs.Layers.{primary_is, primary_layer, term_of_sum}
-use Rattle.region_trees.specs.Regions.{bound_of}
+use Rattle.region_trees.specs.Regions.{bound_of, divisor_of, expression_of, option_map2}
 use Rattle.region_trees.specs.Terms.{Joined, Term, bytes_of, of_equal, primary_of, value_of}
 use Rattle.region_forms.specs.declared.bounds.Operator.{Operator}
 use Rattle.region_forms.specs.declared.bounds.Operator.TheVariants as op
 use Rattle.region_forms.specs.declared.bounds.Reach.{Reach}
 use Rattle.region_forms.specs.declared.scopes.Scope.{Scope}
-use Rattle.region_forms.specs.Bounds.{BoundsAt, IsBound, IsBoundAt, IsCallBoundAt, operator_named}
-use Rattle.region_forms.proofs.BoundTerms.{bound_maximum, bound_minimum, bound_nothing, call_of_others, call_of_two, two_items}
+use Rattle.region_forms.specs.Bounds.{BoundsAt, IsBoundAt, IsCallBoundAt, operator_named}
+use Rattle.region_forms.proofs.BoundTerms.{Picked, bound_maximum, bound_minimum, bound_nothing, call_of_others, call_of_two, two_items}
 use Rattle.region_forms.proofs.BoundTrees.{BoundsAsValue, product_of_two, signs_before, sum_of_two, sum_primary}
 use Rattle.region_forms.proofs.Trees.{bracket_is, ends_at_and, ends_at_compare, ends_at_equal, ends_at_or, ends_at_sum, ok_map, only_item, value_arms}
 use Rattle.region_forms.proofs.bounds.+bounds.Goals as goal
@@ -99,6 +100,22 @@ with_sum-returns-in-Integer t c =
 
 -- ---- calls
 
+-- what has to be shown of two arguments where a name stands for this operator
+abbrev PickedAt : Scope → Reach → Option Operator → Value → Value → Bounds → Bounds → Type 0
+PickedAt scope reach operator left right old made =
+    let l = (value_of scope.source.now left).term in
+    let r = (value_of scope.source.now right).term in
+    Picked (λ bound. BoundsAt scope reach bound old made) operator (option_map2 Maximum (bound_of l) (bound_of r)) (option_map2 Minimum (bound_of l) (bound_of r))
+    (option_map2 Ceiling (expression_of l) (divisor_of r)) (option_map2 Floor (expression_of l) (divisor_of r))
+
+-- the bound of a call on two arguments, by its operator
+call_bound : (scope : Scope) (reach : Reach) (name : Piece) (xs : List Value) (left right : Value) (operator : Option Operator) (old made : Bounds)
+    → xs ≡ left ∷ (right ∷ []) → operator ≡ operator_named (bytes_of scope.source.now name) → PickedAt scope reach operator left right old made
+    → IsCallBoundAt scope reach name xs old made
+call_bound scope reach name xs left right operator old made two named picked =
+    let source = scope.source.now in
+    call_of_two (λ bound. BoundsAt scope reach bound old made) (bytes_of source name) name.from (value_of source) xs left right operator two named picked
+
 pub with_call-returns-then-arguments-ne2 : goal.with_call-returns-then-arguments-ne2
 with_call-returns-then-arguments-ne2 t c =
     let scope = c.args.scope.now in
@@ -113,7 +130,7 @@ with_call-returns-in-None t c =
     let right = c.index-arguments-1.result in
     let two = two_items c.args.arguments.now left right c.if-arguments-ne2.false c.index-arguments-0.is c.index-arguments-1.is in
     let named : None ≡ operator_named (bytes_of source c.args.name) = sym c.in-None.is ∙ c.operator_of.ensures ∙ ap operator_named c.span.ensures in
-    call_of_two (λ bound. BoundsAt scope c.args.reach bound c.args.bounds c.args.bounds) (bytes_of source c.args.name) c.args.name.from (value_of source) c.args.arguments.now left right None two named
+    call_bound scope c.args.reach c.args.name c.args.arguments.now left right None c.args.bounds c.args.bounds two named
     (bound_nothing scope.parameters.now scope.loops.now c.args.reach.side c.args.reach.strict None (bounds_of c.args.bounds) (bounds_of c.args.bounds) refl)
 
 pub with_call-returns-in_ok-first-in-Some-Both : goal.with_call-returns-in_ok-first-in-Some-Both
@@ -129,7 +146,7 @@ with_call-returns-in_ok-first-in-Some-Both t c =
     let old = bounds_of c.args.bounds in
     let first = c.in_ok-first-in-Some-Both in
     ok_map c.with_argument-in-Some-Both.result _ _
-    (λ made p. call_of_two (λ bound. BoundsAt scope c.args.reach bound c.args.bounds made) (bytes_of source c.args.name) c.args.name.from (value_of source) c.args.arguments.now left right (Some op.Both) two named (
+    (λ made p. call_bound scope c.args.reach c.args.name c.args.arguments.now left right (Some op.Both) c.args.bounds made two named (
       bound_maximum scope.parameters.now scope.loops.now c.args.reach.side c.args.reach.strict l r old (bounds_of first.first) (bounds_of made) first.ensures p,
       bound_minimum scope.parameters.now scope.loops.now c.args.reach.side c.args.reach.strict l r old (bounds_of first.first) (bounds_of made) first.ensures p,
     ))
@@ -143,7 +160,9 @@ with_call-returns-in-Some-Ceiling t c =
     let right = c.index-arguments-1.result in
     let two = two_items c.args.arguments.now left right c.if-arguments-ne2.false c.index-arguments-0.is c.index-arguments-1.is in
     let named : Some op.Ceiling ≡ operator_named (bytes_of source c.args.name) = ap (λ (o : Operator). Some o) (sym c.in-Some-Ceiling.field-0-is) ∙ c.in-Some-Ceiling.ensures ∙ ap operator_named c.span.ensures in
-    ok_map c.with_ceiling.result _ _ (λ made p. call_of_two (λ bound. BoundsAt scope c.args.reach bound c.args.bounds made) (bytes_of source c.args.name) c.args.name.from (value_of source) c.args.arguments.now left right (Some op.Ceiling) two named p) c.with_ceiling.ensures
+    ok_map c.with_ceiling.result _ _
+    (λ made p. call_bound scope c.args.reach c.args.name c.args.arguments.now left right (Some op.Ceiling) c.args.bounds made two named p)
+    c.with_ceiling.ensures
 
 pub with_call-returns-in-Some-Floor : goal.with_call-returns-in-Some-Floor
 with_call-returns-in-Some-Floor t c =
@@ -153,7 +172,9 @@ with_call-returns-in-Some-Floor t c =
     let right = c.index-arguments-1.result in
     let two = two_items c.args.arguments.now left right c.if-arguments-ne2.false c.index-arguments-0.is c.index-arguments-1.is in
     let named : Some op.Floor ≡ operator_named (bytes_of source c.args.name) = ap (λ (o : Operator). Some o) (sym c.in-Some-Floor.field-0-is) ∙ c.in-Some-Floor.ensures ∙ ap operator_named c.span.ensures in
-    ok_map c.with_floor.result _ _ (λ made p. call_of_two (λ bound. BoundsAt scope c.args.reach bound c.args.bounds made) (bytes_of source c.args.name) c.args.name.from (value_of source) c.args.arguments.now left right (Some op.Floor) two named p) c.with_floor.ensures
+    ok_map c.with_floor.result _ _
+    (λ made p. call_bound scope c.args.reach c.args.name c.args.arguments.now left right (Some op.Floor) c.args.bounds made two named p)
+    c.with_floor.ensures
 
 -- ---- arguments
 
@@ -203,7 +224,8 @@ with_argument-returns-then-not-is_empty t c =
     let a = c.index-ands-0.result in
     let e = c.index-equals-0.result in
     let one = only_item _ c.as_slice-ands.result.now a c.as_slice-ands.ensures c.if-ands-ne1.false c.index-ands-0.is in
-    let only = only_item _ c.as_slice-equals.result.now e (c.as_slice-equals.ensures ∙ ap (λ (x : And). (out-And x).items) (sym c.index-ands-0.is)) c.if-equals-ne1.false c.index-equals-0.is in
+    let same = c.as_slice-equals.ensures ∙ ap (λ (x : And). (out-And x).items) (sym c.index-ands-0.is) in
+    let only = only_item _ c.as_slice-equals.result.now e same c.if-equals-ne1.false c.index-equals-0.is in
     unbounded c.args.scope.now c.args.reach c.args.value.now c.args.bounds
     (ends_at_equal c.args.scope.now.source.now c.args.value.now IsNoBound (no_arms _ c.if-is_some.ensures) a e one only equal_no_bound
     (λ none. absurd (search (c.if-not-is_empty.ensures.1 none, rules))))
@@ -213,7 +235,8 @@ with_argument-returns-then-not-is_empty-2 t c =
     let a = c.index-ands-0.result in
     let e = c.index-equals-0.result in
     let one = only_item _ c.as_slice-ands.result.now a c.as_slice-ands.ensures c.if-ands-ne1.false c.index-ands-0.is in
-    let only = only_item _ c.as_slice-equals.result.now e (c.as_slice-equals.ensures ∙ ap (λ (x : And). (out-And x).items) (sym c.index-ands-0.is)) c.if-equals-ne1.false c.index-equals-0.is in
+    let same = c.as_slice-equals.ensures ∙ ap (λ (x : And). (out-And x).items) (sym c.index-ands-0.is) in
+    let only = only_item _ c.as_slice-equals.result.now e same c.if-equals-ne1.false c.index-equals-0.is in
     unbounded c.args.scope.now c.args.reach c.args.value.now c.args.bounds
     (ends_at_compare c.args.scope.now.source.now c.args.value.now IsNoBound (no_arms _ c.if-is_some.ensures) a e one only (c.if-not-is_empty.ensures.0 refl)
     (λ s l r. refl) (λ none. absurd (search (c.if-not-is_empty-2.ensures.1 none, rules))))
@@ -224,7 +247,8 @@ with_argument-returns t c =
     let a = c.index-ands-0.result in
     let e = c.index-equals-0.result in
     let one = only_item _ c.as_slice-ands.result.now a c.as_slice-ands.ensures c.if-ands-ne1.false c.index-ands-0.is in
-    let only = only_item _ c.as_slice-equals.result.now e (c.as_slice-equals.ensures ∙ ap (λ (x : And). (out-And x).items) (sym c.index-ands-0.is)) c.if-equals-ne1.false c.index-equals-0.is in
+    let same = c.as_slice-equals.ensures ∙ ap (λ (x : And). (out-And x).items) (sym c.index-ands-0.is) in
+    let only = only_item _ c.as_slice-equals.result.now e same c.if-equals-ne1.false c.index-equals-0.is in
     ok_map c.with_sum.result _ _
     (λ made p. ends_at_sum scope.source.now c.args.value.now (λ t. IsBoundAt scope c.args.reach t c.args.bounds made) (no_arms _ c.if-is_some.ensures) a e one only
     (c.if-not-is_empty.ensures.0 refl) (c.if-not-is_empty-2.ensures.0 refl) p)
