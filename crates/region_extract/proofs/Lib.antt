@@ -1,0 +1,10 @@
+pub mod Results
+pub mod Reading
+pub mod Naming
+pub mod Apart
+pub mod Walking
+pub mod Entering
+pub mod Assigning
+pub mod Spacing
+pub mod Answering
+pub mod Exclusions
