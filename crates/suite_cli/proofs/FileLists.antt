@@ -13,11 +13,18 @@ use Rattle.suite_cli.specs.Answers.{ReadingAnswers, unread_at}
 use Rattle.suite_cli.specs.Commands.{has_input, has_no_name, is_input}
 use Rattle.suite_cli.specs.Reads.{AreRead, FailCause, FaultCause, Named, OfEach, ReadWhole, ReadsNoMore, StopsAt}
 use Rattle.suite_cli.specs.Worlds.{Grows, Inputs}
-use Rattle.suite_cli.proofs.TextCuts.{and_first, and_second}
 
 pub tells : (b : Bool) → (b ≡ true) ⊎ (b ≡ false)
 tells true = inl refl
 tells false = inr refl
+
+and_first : (a b : Bool) → (a && b) ≡ true → a ≡ true
+and_first true b e = refl
+and_first false b e = e
+
+and_second : (a b : Bool) → (a && b) ≡ true → b ≡ true
+and_second true b e = e
+and_second false b e = absurd (cc)
 
 or_first : (a b : Bool) → (a || b) ≡ false → a ≡ false
 or_first true b e = e

@@ -4,7 +4,7 @@ use Rattle.std.proofs.lemmas.List.{append-nil}
 use Rattle.suite_base.specs.Outside.{IsMissing, Under, Wrote, WrotePart}
 use Rattle.suite_base.specs.Limits.{max_commands, max_input, max_stage_rows}
 use Rattle.suite_base.specs.declared.refusals.Refusal.{Refusal}
-use Rattle.suite_base.specs.declared.refusals.Refusal.TheVariants.{NoRegion, OutsideFirstPath, TooLong, Illegal, Limit, Overflow, TooManyRows}
+use Rattle.suite_base.specs.declared.refusals.Refusal.TheVariants.{TooLong, Illegal, Limit, Overflow, TooManyRows}
 use Rattle.scop_core.specs.ScopData.{ScopData}
 use Rattle.scop_core.specs.Layouts.{layout}
 use Rattle.scop_core.specs.Validity.{IsValid}
@@ -31,18 +31,24 @@ use Rattle.candl_deps.specs.Decisions.{IsDecidable, IsRefusal, WithDependences}
 use Rattle.candl_deps.proofs.Kept.{right_is_sound}
 use Rattle.dependence_blocks.proofs.Kept.{kept_hold_conflicts}
 use Rattle.candl_deps.proofs.Printing.{decidable_is_not_refused}
-use Rattle.clan_extract.proofs.OneLoops.{one_loop_means, one_loop_names}
+use Rattle.clan_extract.specs.Names.{arrays_in, parameters_in}
+use Rattle.clan_extract.specs.Scops.{scop_of}
+use Rattle.region_trees.specs.Regions.{nodes_of}
+use Rattle.region_trees.specs.Statements.{statements_of}
+use Rattle.region_trees.specs.Translation.{of_names, of_region, unless_refused}
+use Rattle.region_trees.proofs.Answered.{answers_are_translated}
+use Rattle.region_extract.specs.Answers.{IsTranslation}
+use Rattle.region_extract.proofs.Exclusions.{refuses_no_length, translated_is_not_refused}
 use Rattle.suite_cli.specs.declared.outcomes.Outcome.{Outcome}
 use Rattle.suite_cli.specs.declared.outcomes.Outcome.TheVariants.{Done, Refused, Usage, ReadFault, WriteFault, Memory}
 use Rattle.suite_cli.specs.Answers.{Answers, CommandAnswers, Completes, IsRefused, ReadingAnswers, RefusalCause, Reported}
 use Rattle.suite_cli.specs.AuditPromise as audit
 use Rattle.suite_cli.specs.CandlPromise as candl
 use Rattle.suite_cli.specs.ClanPromise as clan
-use Rattle.suite_cli.specs.ClanPromise.{IsLoopText, scop_of}
+use Rattle.suite_cli.specs.ClanPromise.{names_in}
 use Rattle.suite_cli.specs.ClayPromise as clay
 use Rattle.suite_cli.specs.ClayPromise.{AreClear, IsClear, IsScriptRefused, IsScriptText, IsStopped, edited}
 use Rattle.suite_cli.specs.Commands.{Command, Audit, Candl, Clan, Clay, Scop, Words, files_of}
-use Rattle.suite_cli.specs.FirstForm.{AreWords, IsFirstForm, IsHead, IsAssignment, LoopWords, content_lines, frame_of, loop_of}
 use Rattle.suite_cli.specs.Messages.{message}
 use Rattle.suite_cli.specs.Promises.{OfOne, OfTwo, Refuses, StopCause, Takes}
 use Rattle.suite_cli.specs.Reads.{AreRead, AreReadable, FaultCause, HasReadFault, Holds, IsLong, IsReadFaulty, IsReadable, IsTooLong, Named, StopsAt, Tells}
@@ -53,33 +59,18 @@ use Rattle.suite_cli.proofs.ClayScripts.{fault_is_no_length, one_script, script_
 use Rattle.suite_cli.proofs.ScopTexts.{text_has_no_fault}
 use Rattle.suite_cli.proofs.WordLists.{one_command}
 
--- the words of a loop that was read are words that a loop can have
-words_in : (o : Option (List ℕ × List ℕ)) (l : LoopWords) → IsSomeAnd o (λ frame. IsHead frame.0 l.iterator l.start l.parameter × IsAssignment frame.1 l.array l.iterator l.value) → AreWords l
-words_in None l h = absurd h
-words_in (Some frame) l h = record {
-  iterator = h.0.iterator_is_free;
-  start = h.0.start_is_short;
-  parameter = h.0.parameter_is_free;
-  array = h.1.array_is_free;
-  value = h.1.value_is_short;
-}
-
-pub are_words : (bytes : List ℕ) (l : LoopWords) → IsFirstForm bytes l → AreWords l
-are_words bytes l f = words_in (frame_of (content_lines bytes)) l f.framed
-
 -- a valid SCoP's layout is a text of it
 stands : (output : List ℕ) (S : ScopData) → IsValid S → output ≡ layout S → IsScopText output S
 stands output S valid e = let P : List ℕ → Type 0 = λ bytes. IsScopText bytes S in subst P (sym e) (layout_reads_back_law S valid)
 
--- the layout of its SCoP translates a loop
-pub translates : (text output : List ℕ) (S : ScopData) (l : LoopWords) → IsLoopText text l → IsValid S → output ≡ layout S → S ≡ scop_of l → clan.Makes text output
-translates text output S l loop valid e s = record {
-  words = l;
-  loop = loop;
-  layout_is = e ∙ ap layout s;
-  stands = subst (IsScopText output) s (stands output S valid e);
-  means = one_loop_means (loop_of l);
-  names = one_loop_names (loop_of l);
+-- the layout of the SCoP of a text's region
+pub translates : (text output : List ℕ) (S : ScopData) → IsTranslation text S → IsValid S → output ≡ layout S → clan.Makes text output
+translates text output S t valid e = record {
+  scop = S;
+  translation = t;
+  layout_is = e;
+  stands = stands output S valid e;
+  means = answers_are_translated text (statements_of text t.nodes) S t.translated;
 }
 
 -- the layout of a SCoP that was read prints it
@@ -199,11 +190,22 @@ no_read_fault before now files told t h =
 
 -- ---- refusals
 
--- a text of a loop is not refused
-no_loop_refusal : (text : List ℕ) (l : LoopWords) (refusal : Refusal) → IsLoopText text l → ¬ clan.Refuses text refusal
-no_loop_refusal text l NoRegion t h = h t.opened
-no_loop_refusal text l OutsideFirstPath t h = h.1 l t.form
-no_loop_refusal text l refusal t h = absurd h
+-- what `clan` takes has a translation
+translation_of : (text : List ℕ) (t : clan.Takes text)
+    → IsTranslation text (scop_of (parameters_in (names_in text t.nodes)) (arrays_in (names_in text t.nodes)) t.region)
+translation_of text t =
+    let xs = statements_of text t.nodes in
+    let names = names_in text t.nodes in
+    let parameters = parameters_in names in
+    let arrays = arrays_in names in record {
+      nodes = t.nodes;
+      parsed = t.parsed;
+      translated = ap (λ at. of_names text at names (nodes_of xs)) t.no_clash ∙ ap (of_region text parameters arrays) t.is_region
+          ∙ ap (λ refusal. unless_refused refusal (scop_of parameters arrays t.region)) t.no_refusal;
+    }
+
+no_clan_refusal : (text : List ℕ) (refusal : Refusal) → clan.Takes text → ¬ clan.Refuses text refusal
+no_clan_refusal text refusal t = translated_is_not_refused text _ refusal (translation_of text t)
 
 no_scop_refusal : (text : List ℕ) (S : ScopData) (refusal : Refusal) → IsScopText text S → ¬ scop.Refuses text refusal
 no_scop_refusal text S refusal t h = let none : fault text ≡ None = text_has_no_fault text S t in absurd (cc)
@@ -269,7 +271,7 @@ two_exclude P Q none (a ∷ (b ∷ (more ∷ texts))) p q = p
 
 -- texts that a command takes are not refused
 not_refused : (command : Command) (texts : List (List ℕ)) (place : ℕ) (refusal : Refusal) → Takes command texts → ¬ Refuses command texts place refusal
-not_refused (Clan file) texts place refusal t h = one_excludes clan.Takes (λ text. clan.Refuses text refusal) (λ text p. no_loop_refusal text p.0 refusal p.1) texts t h.1
+not_refused (Clan file) texts place refusal t h = one_excludes clan.Takes (λ text. clan.Refuses text refusal) (λ text. no_clan_refusal text refusal) texts t h.1
 not_refused (Scop file) texts place refusal t h = one_excludes scop.Takes (λ text. scop.Refuses text refusal) (λ text p. no_scop_refusal text p.0 refusal p.1) texts t h.1
 not_refused (Candl file) texts place refusal t h = one_excludes candl.Takes (λ text. candl.Refuses text refusal) (λ text p. no_candl_refusal text p.0 refusal p.1 p.2) texts t h.1
 not_refused (Audit file) texts place refusal t h = one_excludes audit.Takes (λ text. audit.Refuses text refusal) (λ text p. no_audit_refusal text p.0 p.1 refusal p.2 p.3) texts t h.1
@@ -307,7 +309,7 @@ audit_not_too_long text (inr h) = audit_says_no_length h.0 h.2
 
 -- no command refuses a text as too long
 never_long : (command : Command) (texts : List (List ℕ)) (place : ℕ) → ¬ Refuses command texts place TooLong
-never_long (Clan file) texts place h = none_of_one (λ text. clan.Refuses text TooLong) (λ text r. r) texts h.1
+never_long (Clan file) texts place h = none_of_one (λ text. clan.Refuses text TooLong) refuses_no_length texts h.1
 never_long (Scop file) texts place h = none_of_one (λ text. scop.Refuses text TooLong) fault_is_not_too_long_law texts h.1
 never_long (Candl file) texts place h = none_of_one (λ text. candl.Refuses text TooLong) candl_not_too_long texts h.1
 never_long (Audit file) texts place h = none_of_one (λ text. audit.Refuses text TooLong) audit_not_too_long texts h.1

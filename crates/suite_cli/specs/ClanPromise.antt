@@ -1,40 +1,45 @@
 -- What `clan` promises of the text of its file.
-use Rattle.std.specs.Prelude.{◌≡◌, ℕ, true, List}
+use Rattle.std.specs.Prelude.{◌≡◌, ℕ, List, [], None, Ok}
 use Rattle.suite_base.specs.declared.refusals.Refusal.{Refusal}
+use Rattle.c_parser.specs.declared.tree.Node.{Node}
 use Rattle.scop_core.specs.ScopData.{ScopData}
 use Rattle.scop_core.specs.Layouts.{layout}
 use Rattle.scop_reader.specs.Texts.{IsScopText}
+use Rattle.clan_extract.specs.Names.{Occurrence, arrays_in, clash, parameters_in}
+use Rattle.clan_extract.specs.Refusals.{refusal_of}
 use Rattle.clan_extract.specs.Regions.{Nodes}
-use Rattle.clan_extract.specs.Translation.{Means, HasNamesOf, one_loop_region, one_loop_scop}
-use Rattle.suite_cli.specs.FirstForm.{IsFirstForm, IsRefusal, LoopWords, has_scop_line, loop_of}
+use Rattle.region_trees.specs.Laws.{IsTranslated}
+use Rattle.region_trees.specs.Occurrences.{occurrences_in_all}
+use Rattle.region_trees.specs.Regions.{nodes_of}
+use Rattle.region_trees.specs.Statements.{statements_of}
+use Rattle.region_extract.specs.Answers as region
+use Rattle.region_extract.specs.Answers.{IsParsed, IsTranslation}
 
--- the SCoP of the loop with these words, and the C region that the loop is
-abbrev pub scop_of : LoopWords → ScopData
-scop_of words = one_loop_scop (loop_of words)
-
-abbrev pub region_of : LoopWords → Nodes
-region_of words = one_loop_region (loop_of words)
-
--- the text of one loop
-pub record IsLoopText (text : List ℕ) (words : LoopWords) : Type 0 where
-  pub opened : has_scop_line text ≡ true
-  pub form : IsFirstForm text words
-
--- the output is the layout of a SCoP that translates the text's loop, and a text of that SCoP: for every value of the
--- parameter it has a run, whose final memory is the memory after the region; its arrays are numbered by their first
--- occurrence in the region
+-- the output is the layout of the SCoP that the text's region is translated to, and a text of that SCoP: its parameters and arrays are
+-- those of the region, numbered by their first occurrences, and for all values of the parameters it has a run whose final memory is the
+-- memory after the region
 pub record Makes (text output : List ℕ) : Type 0 where
-  pub words : LoopWords
-  pub loop : IsLoopText text words
-  pub layout_is : output ≡ layout (scop_of words)
-  pub stands : IsScopText output (scop_of words)
-  pub means : Means (scop_of words) (region_of words)
-  pub names : HasNamesOf (scop_of words) (region_of words)
+  pub scop : ScopData
+  pub translation : IsTranslation text scop
+  pub layout_is : output ≡ layout scop
+  pub stands : IsScopText output scop
+  pub means : IsTranslated (statements_of text translation.nodes) scop
 
--- it takes the text of a loop
-abbrev pub Takes : List ℕ → Type 0
-Takes text = (words : LoopWords) × IsLoopText text words
+-- the names in the region's statements, in the order of the text
+abbrev pub names_in : List ℕ → List Node → List Occurrence
+names_in text nodes = occurrences_in_all [] (statements_of text nodes)
 
--- it refuses a text without a line that opens a region, and each other text that is not of the first form
+-- it takes a text of one region that the grammar derives, in which no name clashes, each place of control keeps the rules, and no limit
+-- and no range is passed
+pub record Takes (text : List ℕ) : Type 0 where
+  pub nodes : List Node
+  pub parsed : IsParsed text nodes
+  pub no_clash : clash (names_in text nodes) ≡ None
+  pub region : Nodes
+  pub is_region : nodes_of (statements_of text nodes) ≡ Ok region
+  pub no_refusal : refusal_of (parameters_in (names_in text nodes)) (arrays_in (names_in text nodes)) region ≡ None
+
+-- it refuses each other text for its pragma lines, for the first token with which the grammar does not go on, or for the first refusal of
+-- its region
 abbrev pub Refuses : List ℕ → Refusal → Type 0
-Refuses text refusal = IsRefusal text refusal
+Refuses text refusal = region.Refuses text refusal

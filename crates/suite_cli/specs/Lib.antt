@@ -1,8 +1,5 @@
 pub mod Commands
-pub mod FirstForm
 pub mod Messages
-pub mod Names
-pub mod Pieces
 pub mod Worlds
 pub mod Reads
 pub mod AuditPromise

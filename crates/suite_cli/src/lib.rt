@@ -5,15 +5,12 @@
 mod adapters;
 mod commands;
 mod file_words;
-mod first_form;
 mod messages;
-mod names;
 mod outcomes;
 mod readings;
 mod runs;
 mod script_runs;
 mod top;
-mod translations;
 
 pub use adapters::{RealFiles, RealInput, RealOutput};
 pub use commands::{Work, read_words};

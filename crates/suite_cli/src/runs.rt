@@ -13,13 +13,12 @@ ghost use Rattle.suite_cli.specs.ScopPromise as scop;
 ghost use Rattle.suite_cli.specs.Worlds.{world_of};
 
 use crate::commands::{Work, read_words};
-use crate::first_form::read_first_form;
 use crate::outcomes::Outcome;
 use crate::readings::read_files;
 use crate::script_runs::edited_text;
-use crate::translations::translation;
 use candl_deps::with_dependences;
 use dependence_audit::{Counts, audit};
+use region_extract::region_scop;
 use scop_reader::read_scop;
 use scop_writer::print_scop;
 use std::alloc::Global;
@@ -123,17 +122,16 @@ fn made_of(file: u8, made: Result<Text, Fail>) -> Result<Text, Outcome>
 
 /// The SCoP of a text's region, as it is printed.
 fn translated(alloc: Global, bytes: &[u8]) -> Result<Text, Fail>
+    requires short { length bytes.now ≤ max_input }
     ensures ok { IfOk result (λ output. clan.Makes bytes.now output) }
     ensures err { IfErr result (promise.FailCause (clan.Refuses bytes.now)) }
 {
-    match read_first_form(bytes) {
-        Err(refusal) => Err(Fail::Refused(refusal)),
-        Ok(text) => match translation(alloc, &text) {
+    match region_scop(alloc, bytes) {
+        Err(Fail::Memory) => Err(Fail::Memory),
+        Err(Fail::Refused(refusal)) => Err(Fail::Refused(refusal)),
+        Ok(scop) => match print_scop(alloc, &scop) {
             Err(_) => Err(Fail::Memory),
-            Ok(scop) => match print_scop(alloc, &scop) {
-                Err(_) => Err(Fail::Memory),
-                Ok(output) => Ok(output),
-            },
+            Ok(output) => Ok(output),
         },
     }
 }

@@ -15,8 +15,8 @@ use suite_base::{Files, Sink, Source, WordList};
 /// does the work, writes the output to `out`, and for each outcome but `Done` one line to `err`.
 ///
 /// What was appended to `out` at `Done` is, under
-/// - `clan`: the layout of a SCoP, where the file was the text of one loop. For every value of the parameter the SCoP has
-///   a run whose final memory is the memory after the C region.
+/// - `clan`: the layout of the SCoP that the C region in the file is translated to. For all values of the parameters the
+///   SCoP has a run whose final memory is the memory after the region.
 /// - `scop`: the layout of the SCoP in the file.
 /// - `candl`: the same with its block of dependence systems. For all parameter values in the context a pair of instances
 ///   lies in a kept system exactly where it is a dependence.

@@ -1,5 +1,0 @@
-use Rattle.std.proofs.lemmas.List.Sums.{prefix_len-le-length}
-use Rattle.suite_cli.proofs.names.digit_prefix.Goals as goal
-
-pub split_at-requires : goal.split_at-requires
-split_at-requires c = rw c.digit_count.ensures (prefix_len-le-length _ _)
