@@ -5,3 +5,4 @@ pub mod ScopTexts
 pub mod FileLists
 pub mod RunAnswers
 pub mod ClayScripts
+pub mod Recoverings

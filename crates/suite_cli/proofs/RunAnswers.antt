@@ -44,17 +44,19 @@ use Rattle.suite_cli.specs.declared.outcomes.Outcome.TheVariants.{Done, Refused,
 use Rattle.suite_cli.specs.Answers.{Answers, CommandAnswers, Completes, IsRefused, ReadingAnswers, RefusalCause, Reported}
 use Rattle.suite_cli.specs.AuditPromise as audit
 use Rattle.suite_cli.specs.CandlPromise as candl
+use Rattle.suite_cli.specs.ChlorePromise as chlore
 use Rattle.suite_cli.specs.ClanPromise as clan
 use Rattle.suite_cli.specs.ClanPromise.{names_in}
 use Rattle.suite_cli.specs.ClayPromise as clay
 use Rattle.suite_cli.specs.ClayPromise.{AreClear, IsClear, IsScriptRefused, IsScriptText, IsStopped, edited}
-use Rattle.suite_cli.specs.Commands.{Command, Audit, Candl, Clan, Clay, Scop, Words, files_of}
+use Rattle.suite_cli.specs.Commands.{Command, Audit, Candl, Chlore, Clan, Clay, Scop, Words, files_of}
 use Rattle.suite_cli.specs.Messages.{message}
 use Rattle.suite_cli.specs.Promises.{OfOne, OfTwo, Refuses, StopCause, Takes}
 use Rattle.suite_cli.specs.Reads.{AreRead, AreReadable, FaultCause, HasReadFault, Holds, IsLong, IsReadFaulty, IsReadable, IsTooLong, Named, StopsAt, Tells}
 use Rattle.suite_cli.specs.ScopPromise as scop
 use Rattle.suite_cli.specs.Worlds.{Inputs, IsUnwritten, IsWriteFaulty, Output, World}
 use Rattle.suite_cli.proofs.AuditLengths.{audit_says_no_length}
+use Rattle.suite_cli.proofs.Recoverings.{chlore_not_too_long, no_chlore_refusal}
 use Rattle.suite_cli.proofs.ClayScripts.{fault_is_no_length, one_script, script_has_no_fault, script_says_no_length}
 use Rattle.suite_cli.proofs.ScopTexts.{text_has_no_fault}
 use Rattle.suite_cli.proofs.WordLists.{one_command}
@@ -277,6 +279,8 @@ not_refused (Candl file) texts place refusal t h = one_excludes candl.Takes (λ 
 not_refused (Audit file) texts place refusal t h = one_excludes audit.Takes (λ text. audit.Refuses text refusal) (λ text p. no_audit_refusal text p.0 p.1 refusal p.2 p.3) texts t h.1
 not_refused (Clay script file) texts place refusal t h =
     two_exclude clay.Takes (λ first second. clay.Refuses first second place refusal) (λ first second. no_clay_refusal first second place refusal) texts t h
+not_refused (Chlore original target) texts place refusal t h =
+    two_exclude chlore.Takes (λ first second. chlore.Refuses first second place refusal) (λ first second. no_chlore_refusal first second place refusal) texts t h
 
 -- what no text has, no list of one has
 none_of_one : (P : List ℕ → Type 0) → ((text : List ℕ) → ¬ P text) → (texts : List (List ℕ)) → ¬ OfOne P texts
@@ -314,6 +318,7 @@ never_long (Scop file) texts place h = none_of_one (λ text. scop.Refuses text T
 never_long (Candl file) texts place h = none_of_one (λ text. candl.Refuses text TooLong) candl_not_too_long texts h.1
 never_long (Audit file) texts place h = none_of_one (λ text. audit.Refuses text TooLong) audit_not_too_long texts h.1
 never_long (Clay script file) texts place h = none_of_two (λ first second. clay.Refuses first second place TooLong) (λ first second. clay_not_too_long first second place) texts h
+never_long (Chlore original target) texts place h = none_of_two (λ first second. chlore.Refuses first second place TooLong) (λ first second. chlore_not_too_long first second place) texts h
 
 cause_unless_long : (command : Command) (before now : Inputs) (place : ℕ) (refusal : Refusal) → ¬ (refusal ≡ TooLong) → IsRefused command before now place refusal → RefusalCause command before now place refusal
 cause_unless_long command before now place TooLong other h = absurd (other refl)

@@ -2,7 +2,7 @@ use Rattle.std.proofs.Common.{◌≡◌, ℕ, ◌+◌, ◌≤◌, Bool, List, []
 use Rattle.std.specs.Prelude.{codes}
 use Rattle.std.specs.Str.{bytes_eq}
 use Rattle.std.proofs.lemmas.List.Elements.{All-cons, All-nil}
-use Rattle.suite_cli.specs.Commands.{AreFileWords, Command, Audit, Candl, Clan, Clay, Scop, Words, is_file_word, is_input, words_of}
+use Rattle.suite_cli.specs.Commands.{AreFileWords, Command, Audit, Candl, Chlore, Clan, Clay, Scop, Words, is_file_word, is_input, words_of}
 
 some_is : (xs ys : List ℕ) → Some xs ≡ Some ys → xs ≡ ys
 some_is xs ys e = cc
@@ -35,7 +35,7 @@ one_file file e = record {
 -- the command that words are
 command_in : List (List ℕ) → Option Command
 command_in (name ∷ (file ∷ [])) = if bytes_eq name (codes "clan") then Some (Clan file) else if bytes_eq name (codes "scop") then Some (Scop file) else if bytes_eq name (codes "candl") then Some (Candl file) else if bytes_eq name (codes "audit") then Some (Audit file) else None
-command_in (name ∷ (first ∷ (second ∷ []))) = if bytes_eq name (codes "clay") then Some (Clay first second) else None
+command_in (name ∷ (first ∷ (second ∷ []))) = if bytes_eq name (codes "clay") then Some (Clay first second) else if bytes_eq name (codes "chlore") then Some (Chlore first second) else None
 command_in words = None
 
 read_back : (command : Command) → command_in (words_of command) ≡ Some command
@@ -45,6 +45,7 @@ read_back (Scop file) = refl
 read_back (Candl file) = refl
 read_back (Audit file) = refl
 read_back (Clay script file) = refl
+read_back (Chlore original target) = refl
 
 some_command : (a b : Command) → Some a ≡ Some b → a ≡ b
 some_command a b e = cc

@@ -12,6 +12,7 @@ pub data Command : Type 0 where
   Candl : (file : List ℕ) → Command
   Audit : (file : List ℕ) → Command
   Clay : (script file : List ℕ) → Command
+  Chlore : (original target : List ℕ) → Command
 
 -- the command that a work is
 abbrev pub command_of : Work → Command
@@ -20,6 +21,7 @@ command_of (work.Scop file) = Scop file.now
 command_of (work.Candl file) = Candl file.now
 command_of (work.Audit file) = Audit file.now
 command_of (work.Clay script file) = Clay script.now file.now
+command_of (work.Chlore original target) = Chlore original.now target.now
 
 -- the words of the files that a command reads, in their order
 abbrev pub files_of : Command → List (List ℕ)
@@ -28,6 +30,7 @@ files_of (Scop file) = file ∷ []
 files_of (Candl file) = file ∷ []
 files_of (Audit file) = file ∷ []
 files_of (Clay script file) = script ∷ (file ∷ [])
+files_of (Chlore original target) = original ∷ (target ∷ [])
 
 -- the words of a command
 abbrev pub words_of : Command → List (List ℕ)
@@ -36,6 +39,7 @@ words_of (Scop file) = codes "scop" ∷ (file ∷ [])
 words_of (Candl file) = codes "candl" ∷ (file ∷ [])
 words_of (Audit file) = codes "audit" ∷ (file ∷ [])
 words_of (Clay script file) = codes "clay" ∷ (script ∷ (file ∷ []))
+words_of (Chlore original target) = codes "chlore" ∷ (original ∷ (target ∷ []))
 
 -- the word for standard input
 abbrev pub is_input : List ℕ → Bool

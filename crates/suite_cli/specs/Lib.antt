@@ -4,6 +4,7 @@ pub mod Worlds
 pub mod Reads
 pub mod AuditPromise
 pub mod CandlPromise
+pub mod ChlorePromise
 pub mod ClanPromise
 pub mod ClayPromise
 pub mod ScopPromise

@@ -19,6 +19,8 @@ pub enum Work<'a> {
     Audit(&'a str),
     /// Edits the schedule of a SCoP by a script: the file of the script, and that of the SCoP.
     Clay(&'a str, &'a str),
+    /// Finds the script that turns the schedules of an original into those of a target: the files of both.
+    Chlore(&'a str, &'a str),
 }
 
 impl<'a> Work<'a> {
@@ -35,6 +37,7 @@ impl<'a> Work<'a> {
             Work::Candl(file) => one_file(file, k),
             Work::Audit(file) => one_file(file, k),
             Work::Clay(script, file) => two_files(script, file, k),
+            Work::Chlore(original, target) => two_files(original, target, k),
         }
     }
 }
@@ -68,7 +71,7 @@ pub fn read_words(words: &WordList) -> Option<Work<'_>>
     ensures { MatchOption result (spec.IsNoCommand words.now) (λ work. spec.Words words.now (spec.command_of work)) }
 {
     match two_words(words) {
-        None => clay_work(words),
+        None => pair_work(words),
         Some((command, file)) => {
             if is_file_word(file) {
                 named_work(command, file)
@@ -80,19 +83,34 @@ pub fn read_words(words: &WordList) -> Option<Work<'_>>
 }
 
 /// The work of a command on two files.
-fn clay_work(words: &WordList) -> Option<Work<'_>>
+fn pair_work(words: &WordList) -> Option<Work<'_>>
     requires { length words.now ≢ 2 }
     ensures { MatchOption result (spec.IsNoCommand words.now) (λ work. spec.Words words.now (spec.command_of work)) }
 {
     match three_words(words) {
         None => None,
         Some((command, first, second)) => {
-            if command == "clay" && are_file_words(first, second) {
-                Some(Work::Clay(first, second))
+            if are_file_words(first, second) {
+                named_pair(command, first, second)
             } else {
                 None
             }
         }
+    }
+}
+
+/// The work of this command on these two files; `None` exactly where it is no command on two files.
+fn named_pair<'a>(command: &str, first: &'a str, second: &'a str) -> Option<Work<'a>>
+    requires { spec.AreFileWords (first.now ∷ (second.now ∷ [])) }
+    ensures { let words = command.now ∷ (first.now ∷ (second.now ∷ [])) in
+        MatchOption result (spec.IsNoCommand words) (λ work. spec.Words words (spec.command_of work)) }
+{
+    if command == "clay" {
+        Some(Work::Clay(first, second))
+    } else if command == "chlore" {
+        Some(Work::Chlore(first, second))
+    } else {
+        None
     }
 }
 

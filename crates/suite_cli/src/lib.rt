@@ -8,6 +8,7 @@ mod file_words;
 mod messages;
 mod outcomes;
 mod readings;
+mod recoveries;
 mod runs;
 mod script_runs;
 mod top;

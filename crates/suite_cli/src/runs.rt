@@ -5,6 +5,7 @@ ghost use Rattle.suite_base.specs.Limits.{max_input};
 ghost use Rattle.suite_cli.specs.Answers as spec;
 ghost use Rattle.suite_cli.specs.AuditPromise as audit_promise;
 ghost use Rattle.suite_cli.specs.CandlPromise as candl;
+ghost use Rattle.suite_cli.specs.ChlorePromise as chlore;
 ghost use Rattle.suite_cli.specs.ClanPromise as clan;
 ghost use Rattle.suite_cli.specs.ClayPromise as clay;
 ghost use Rattle.suite_cli.specs.Commands as command;
@@ -15,6 +16,7 @@ ghost use Rattle.suite_cli.specs.Worlds.{world_of};
 use crate::commands::{Work, read_words};
 use crate::outcomes::Outcome;
 use crate::readings::read_files;
+use crate::recoveries::recovered_text;
 use crate::script_runs::edited_text;
 use candl_deps::with_dependences;
 use dependence_audit::{Counts, audit};
@@ -87,18 +89,29 @@ fn output_of(alloc: Global, work: &Work<'_>, texts: &[Text]) -> Result<Text, Out
         Work::Scop(_) => made_of(1, printed(alloc, only(texts))),
         Work::Candl(_) => made_of(1, with_block(alloc, only(texts))),
         Work::Audit(_) => made_of(1, audited(alloc, only(texts))),
-        Work::Clay(_, _) => of_two(alloc, texts),
+        Work::Clay(_, _) => of_script(alloc, texts),
+        Work::Chlore(_, _) => of_pair(alloc, texts),
     }
 }
 
 /// The output of `clay` on a script and a SCoP.
-fn of_two(alloc: Global, texts: &[Text]) -> Result<Text, Outcome>
+fn of_script(alloc: Global, texts: &[Text]) -> Result<Text, Outcome>
     requires two { length texts.now ≡ 2 }
     requires short { All (λ text. length text ≤ max_input) texts.now }
     ensures ok { IfOk result (λ output. promise.OfTwo (λ first second. clay.Makes first second output) texts.now) }
     ensures err { IfErr result (λ outcome. promise.OfTwo (λ first second. clay.IsStop first second outcome) texts.now) }
 {
     edited_text(alloc, texts[0].bytes(), texts[1].bytes())
+}
+
+/// The output of `chlore` on an original and a target.
+fn of_pair(alloc: Global, texts: &[Text]) -> Result<Text, Outcome>
+    requires two { length texts.now ≡ 2 }
+    requires short { All (λ text. length text ≤ max_input) texts.now }
+    ensures ok { IfOk result (λ output. promise.OfTwo (λ first second. chlore.Makes first second output) texts.now) }
+    ensures err { IfErr result (λ outcome. promise.OfTwo (λ first second. chlore.IsStop first second outcome) texts.now) }
+{
+    recovered_text(alloc, texts[0].bytes(), texts[1].bytes())
 }
 
 /// The bytes of the one text.
