@@ -14,7 +14,7 @@ pub struct Example {
 }
 
 /// Every command once.
-pub const EXAMPLES: [Example; 5] = [
+pub const EXAMPLES: [Example; 6] = [
     Example {
         command: "clan",
         texts: &[ONE_LOOP],
@@ -39,5 +39,10 @@ pub const EXAMPLES: [Example; 5] = [
         command: "clay",
         texts: &[TILE_TWO, STENCIL_SCOP],
         output: STENCIL_TILED,
+    },
+    Example {
+        command: "chlore",
+        texts: &[DOWNWARD_LOOP_SCOP, ONE_LOOP_SCOP],
+        output: b"reverse([0], 1);\n",
     },
 ];

@@ -1,7 +1,7 @@
 //! Each kind of message with each of its writes failing in turn.
 
 use crate::runs::{Fault, PLAIN, Setting, run_suite};
-use crate::texts::{ONE_LOOP, ONE_LOOP_SCOP};
+use crate::texts::{ONE_LOOP, ONE_LOOP_SCOP, STENCIL_SCOP};
 use std::process::Abort;
 use std::test::Fail;
 use suite_base::{Place, Refusal, Where, Which};
@@ -23,7 +23,7 @@ const CLASH: &[u8] =
     b"<OpenScop>\nC\nCONTEXT\n0 2 0 0 0 0\n0\n2\n2\nDOMAIN\n0 2 0 0 0 0\nSCATTERING\n1 3 1 0 0 0\n0 -1 0\n0\n2\nDOMAIN\n0 2 0 0 0 0\nSCATTERING\n1 3 1 0 0 0\n0 -1 0\n0\n</OpenScop>\n";
 
 /// A run for each outcome but `Done` and want of memory, and a refusal for each kind of fields.
-const TOLD: [Told; 10] = [
+const TOLD: [Told; 11] = [
     Told {
         command: "frob",
         texts: &[b"x"],
@@ -127,6 +127,17 @@ const TOLD: [Told; 10] = [
         },
         output: b"",
         message: b"suite: refused 1 23 Overflow command 2\n",
+    },
+    Told {
+        command: "chlore",
+        texts: &[ONE_LOOP_SCOP, STENCIL_SCOP],
+        fault: Fault::Nothing,
+        outcome: Outcome::Refused {
+            file: 0,
+            refusal: Refusal::Different(1),
+        },
+        output: b"",
+        message: b"suite: refused 0 26 Different 1\n",
     },
 ];
 
