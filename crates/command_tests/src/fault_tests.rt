@@ -6,6 +6,7 @@ use crate::short_sinks::MOST;
 use std::alloc::Global;
 use std::process::Abort;
 use std::test::Fail;
+use suite_base::NoMemory;
 use suite_cli::Outcome;
 
 /// The calls that open a short file, read its bytes and read its end.
@@ -56,48 +57,104 @@ fn is_write_fault(run: &Run, part: &[u8]) -> bool {
         && run.out.bytes() == part
 }
 
-/// Runs the example with call 1, 2 and so on of one object failing, up to the first that is not made. What is not named
-/// is not called, and no message is written.
+/// The first `n` bytes, or all where there are fewer.
+fn first_part(bytes: &[u8], n: usize) -> &[u8] {
+    &bytes[..n.min(bytes.len())]
+}
+
+/// Whether the example, with call `k` of an object failing that is called `calls` times, ends as it has to. A run that is
+/// not hit writes no message, so that none of it can fail.
+fn ends_well(
+    alloc: Global,
+    example: &Example,
+    setting: Setting,
+    k: u64,
+    calls: u64,
+) -> Result<bool, NoMemory> {
+    if k <= calls {
+        let run = run_suite(alloc, example.command, example.texts, setting)?;
+        return Ok(is_read_fault(&run));
+    }
+    let setting = Setting {
+        lost: Some(1),
+        ..setting
+    };
+    let run = run_suite(alloc, example.command, example.texts, setting)?;
+    Ok(is_done(&run, example))
+}
+
+/// Runs the example with call 1, 2 and so on of the files and of the input failing, up to the first that is not made.
+/// What is not named is not called.
 fn reads_fail(
     rt: &impl Abort,
     alloc: Global,
     example: &Example,
     setting: Setting,
 ) -> Result<(), Fail> {
-    for k in 1..=9 {
-        for (fault, calls) in [
-            (Fault::Files(k), calls_of_files(example, setting)),
-            (Fault::Input(k), calls_of_input(setting)),
-            (Fault::Message(k), 0),
-        ] {
-            if k <= calls.saturating_add(1) {
-                let setting = Setting { fault, ..setting };
-                let run = run_suite(alloc, example.command, example.texts, setting)?;
-                let is_right = if k <= calls {
-                    is_read_fault(&run)
-                } else {
-                    is_done(&run, example)
-                };
-                assert!(rt; is_right, "{setting:?}");
-            }
-        }
+    let of_files = calls_of_files(example, setting);
+    for k in 1..=of_files.saturating_add(1) {
+        let setting = Setting {
+            fault: Fault::Files(k),
+            ..setting
+        };
+        assert!(rt;
+            ends_well(alloc, example, setting, k, of_files)?,
+            "{setting:?}"
+        );
+    }
+    let of_input = calls_of_input(setting);
+    for k in 1..=of_input.saturating_add(1) {
+        let setting = Setting {
+            fault: Fault::Input(k),
+            ..setting
+        };
+        assert!(rt;
+            ends_well(alloc, example, setting, k, of_input)?,
+            "{setting:?}"
+        );
     }
     Ok(())
 }
 
-/// Each file by its name and from standard input, with and without newlines before the first.
+/// Runs the example with call 1, 2 and so on of the output failing, up to the first that is not made. The output goes out
+/// in pieces of [`MOST`] bytes; those before the call that fails were written.
+fn writes_fail(
+    rt: &impl Abort,
+    alloc: Global,
+    example: &Example,
+    setting: Setting,
+) -> Result<(), Fail> {
+    for k in 0..=example.output.len().div_ceil(MOST) {
+        let setting = Setting {
+            fault: Fault::Output((k as u64).saturating_add(1)),
+            ..setting
+        };
+        let run = run_suite(alloc, example.command, example.texts, setting)?;
+        let part = first_part(example.output, k.saturating_mul(MOST));
+        let is_right = if part.len() < example.output.len() {
+            is_write_fault(&run, part)
+        } else {
+            is_done(&run, example)
+        };
+        assert!(rt; is_right, "{setting:?}");
+    }
+    Ok(())
+}
+
+/// Each file by its name, and one of them from standard input.
+const PIPED: [Option<usize>; 3] = [None, Some(0), Some(1)];
+
+/// With and without newlines before the first file.
 #[test]
 fn a_call_that_reads_fails(rt: HostRuntime) -> Result<(), Fail> {
     for example in &EXAMPLES {
-        for piped in [None, Some(0), Some(1)] {
-            if piped == Some(1) && example.texts.len() < 2 {
-                continue;
-            }
-            for is_padded in [false, true] {
+        for piped in PIPED {
+            if piped.is_none_or(|k| k < example.texts.len()) {
+                let setting = Setting { piped, ..PLAIN };
+                reads_fail(&rt, rt.alloc(), example, setting)?;
                 let setting = Setting {
-                    piped,
-                    is_padded,
-                    ..PLAIN
+                    is_padded: true,
+                    ..setting
                 };
                 reads_fail(&rt, rt.alloc(), example, setting)?;
             }
@@ -106,26 +163,10 @@ fn a_call_that_reads_fails(rt: HostRuntime) -> Result<(), Fail> {
     Ok(())
 }
 
-/// The output goes out in pieces of [`MOST`] bytes; those before the call that fails were written.
 #[test]
 fn a_call_that_writes_fails(rt: HostRuntime) -> Result<(), Fail> {
     for example in &EXAMPLES {
-        for k in 0..140usize {
-            let setting = Setting {
-                fault: Fault::Output(k as u64 + 1),
-                ..PLAIN
-            };
-            let run = run_suite(rt.alloc(), example.command, example.texts, setting)?;
-            let part = k * MOST;
-            if part >= example.output.len() {
-                assert!(rt; is_done(&run, example), "{setting:?}");
-                break;
-            }
-            assert!(rt;
-                is_write_fault(&run, &example.output[..part]),
-                "{setting:?}"
-            );
-        }
+        writes_fail(&rt, rt.alloc(), example, PLAIN)?;
     }
     Ok(())
 }

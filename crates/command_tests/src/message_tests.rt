@@ -2,16 +2,17 @@
 
 use crate::runs::{Fault, PLAIN, Setting, run_suite};
 use crate::texts::{ONE_LOOP, ONE_LOOP_SCOP, STENCIL_SCOP};
+use std::alloc::Global;
 use std::process::Abort;
 use std::test::Fail;
-use suite_base::{Place, Refusal, Where, Which};
+use suite_base::{NoMemory, Place, Refusal, Where, Which};
 use suite_cli::Outcome;
 
 /// A run that does not end in `Done`, and what is written.
 struct Told {
     command: &'static str,
     texts: &'static [&'static [u8]],
-    /// The call that fails, none of those of the message.
+    /// The call that fails.
     fault: Fault,
     outcome: Outcome,
     output: &'static [u8],
@@ -156,27 +157,35 @@ fn messages_are_written(rt: HostRuntime) -> Result<(), Fail> {
     Ok(())
 }
 
-/// A message goes out in pieces. Those before the call that fails were written, and nothing else changes.
+/// Whether a run whose message stops at its write `k` ends as told. The message goes out in pieces, and those before that
+/// write were written: none before the first, and all before the thirtieth.
+fn loses_message(alloc: Global, told: &Told, k: u64) -> Result<bool, NoMemory> {
+    let setting = Setting {
+        fault: told.fault,
+        lost: Some(k),
+        ..PLAIN
+    };
+    let run = run_suite(alloc, told.command, told.texts, setting)?;
+    let written = run.err.bytes();
+    let is_right_part = if k == 1 {
+        written.is_empty()
+    } else if k == 30 {
+        written == told.message
+    } else {
+        told.message.starts_with(written)
+    };
+    Ok(run.outcome == told.outcome && run.out.bytes() == told.output && is_right_part)
+}
+
 #[test]
 fn lost_messages_change_no_outcome(rt: HostRuntime) -> Result<(), Fail> {
     for told in &TOLD {
-        if let Fault::Nothing = told.fault {
-            let mut before = 0;
-            for k in 1..=30u64 {
-                let setting = Setting {
-                    fault: Fault::Message(k),
-                    ..PLAIN
-                };
-                let run = run_suite(rt.alloc(), told.command, told.texts, setting)?;
-                let written = run.err.bytes();
-                assert_eq!(rt; run.outcome, told.outcome);
-                assert_eq!(rt; run.out.bytes(), told.output);
-                assert!(rt; told.message.starts_with(written));
-                assert!(rt; k == 1 || written.len() > before || written == told.message);
-                assert!(rt; k < 30 || written == told.message);
-                assert!(rt; k > 1 || written.is_empty());
-                before = written.len();
-            }
+        for k in 1..=30u64 {
+            assert!(rt;
+                loses_message(rt.alloc(), told, k)?,
+                "{:?} {k}",
+                told.outcome
+            );
         }
     }
     Ok(())

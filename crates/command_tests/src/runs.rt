@@ -12,7 +12,6 @@ pub enum Fault {
     Files(u64),
     Input(u64),
     Output(u64),
-    Message(u64),
 }
 
 /// How a command is run.
@@ -24,6 +23,8 @@ pub struct Setting {
     pub is_padded: bool,
     /// The call that fails.
     pub fault: Fault,
+    /// The write of the message that fails, from 1.
+    pub lost: Option<u64>,
 }
 
 /// Each file by its name, and no call fails.
@@ -31,6 +32,7 @@ pub const PLAIN: Setting = Setting {
     piped: None,
     is_padded: false,
     fault: Fault::Nothing,
+    lost: None,
 };
 
 /// What a run left behind.
@@ -88,13 +90,6 @@ impl Fault {
             _ => None,
         }
     }
-
-    fn of_message(self) -> Option<u64> {
-        match self {
-            Fault::Message(k) => Some(k),
-            _ => None,
-        }
-    }
 }
 
 /// A sink in memory, of which this call fails.
@@ -131,7 +126,7 @@ pub fn run_suite(
     let mut files = MemFiles::new(named, listed(alloc, fault.of_files())?);
     let mut source = MemSource::new(input, listed(alloc, fault.of_input())?);
     let mut out = sink(alloc, fault.of_output())?;
-    let mut err = sink(alloc, fault.of_message())?;
+    let mut err = sink(alloc, setting.lost)?;
     let outcome = suite(alloc, &words, &mut files, &mut source, &mut out, &mut err);
     Ok(Run { outcome, out, err })
 }
