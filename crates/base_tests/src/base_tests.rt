@@ -57,13 +57,12 @@ fn texts_and_words_grow(rt: HostRuntime) -> Result<(), TestFail> {
 #[test]
 fn refusals_have_numbers(rt: HostRuntime) {
     let place = Place { line: 3, column: 5 };
-    let cases: [(Refusal, u8, &str); 6] = [
+    let cases: [(Refusal, u8, &str); 5] = [
         (Refusal::TooLong, 1, "TooLong"),
         (Refusal::NotAffine(place), 8, "NotAffine"),
         (Refusal::BetaClash(1, 2), 15, "BetaClash"),
         (Refusal::Limit(Which::Rows, 1), 17, "Limit"),
         (Refusal::BadCertificate(0), 29, "BadCertificate"),
-        (Refusal::OutsideFirstPath, 30, "OutsideFirstPath"),
     ];
     for (refusal, number, name) in &cases {
         assert_eq!(rt; refusal.number(), *number);

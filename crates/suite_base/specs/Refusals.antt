@@ -1,9 +1,9 @@
 -- The number and the name of each refusal.
 use Rattle.std.specs.Prelude.{ℕ, List, codes}
 use Rattle.suite_base.specs.declared.refusals.Refusal.{Refusal}
-use Rattle.suite_base.specs.declared.refusals.Refusal.TheVariants.{TooLong, NoRegion, OpenRegion, SecondRegion, BadToken, BadSyntax, TooDeep, NotAffine, NameClash, TooManyParts, BadScop, NumberTooLarge, SecondScop, NotSolved, BetaClash, Limit, BadScript, NoBeta, BadLevel, BadArgument, NotALoop, Overflow, TooManyRows, Illegal, Different, NotClanForm, NotRecoverable, BadCertificate, OutsideFirstPath}
+use Rattle.suite_base.specs.declared.refusals.Refusal.TheVariants.{TooLong, NoRegion, OpenRegion, SecondRegion, BadToken, BadSyntax, TooDeep, NotAffine, NameClash, TooManyParts, BadScop, NumberTooLarge, SecondScop, NotSolved, BetaClash, Limit, BadScript, NoBeta, BadLevel, BadArgument, NotALoop, Overflow, TooManyRows, Illegal, Different, NotClanForm, NotRecoverable, BadCertificate}
 
--- numbers are never moved; 16 is no refusal's
+-- numbers are never moved; 16 and 30 are no refusal's
 abbrev pub number_of : Refusal → ℕ
 number_of TooLong = 1
 number_of NoRegion = 2
@@ -33,7 +33,6 @@ number_of (Different n) = 26
 number_of (NotClanForm n) = 27
 number_of (NotRecoverable n) = 28
 number_of (BadCertificate n) = 29
-number_of OutsideFirstPath = 30
 
 abbrev pub name_of : Refusal → List ℕ
 name_of TooLong = codes "TooLong"
@@ -64,4 +63,3 @@ name_of (Different n) = codes "Different"
 name_of (NotClanForm n) = codes "NotClanForm"
 name_of (NotRecoverable n) = codes "NotRecoverable"
 name_of (BadCertificate n) = codes "BadCertificate"
-name_of OutsideFirstPath = codes "OutsideFirstPath"

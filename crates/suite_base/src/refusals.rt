@@ -107,8 +107,6 @@ pub enum Refusal {
     NotRecoverable(u32),
     /// This entry of the printed block is not the defined one.
     BadCertificate(u32),
-    /// The text is not the one loop that this version of `clan` reads.
-    OutsideFirstPath,
 }
 
 impl Refusal {
@@ -145,7 +143,6 @@ impl Refusal {
             Refusal::NotClanForm(_) => 27,
             Refusal::NotRecoverable(_) => 28,
             Refusal::BadCertificate(_) => 29,
-            Refusal::OutsideFirstPath => 30,
         }
     }
 
@@ -182,7 +179,6 @@ impl Refusal {
             Refusal::NotClanForm(_) => "NotClanForm",
             Refusal::NotRecoverable(_) => "NotRecoverable",
             Refusal::BadCertificate(_) => "BadCertificate",
-            Refusal::OutsideFirstPath => "OutsideFirstPath",
         }
     }
 }

@@ -2,7 +2,7 @@
 use Rattle.std.specs.Prelude.{ℕ, List, [], ◌++◌, codes}
 use Rattle.std.specs.Fmt.{decimal}
 use Rattle.suite_base.specs.declared.refusals.Refusal.{Refusal}
-use Rattle.suite_base.specs.declared.refusals.Refusal.TheVariants.{TooLong, NoRegion, OpenRegion, SecondRegion, BadToken, BadSyntax, TooDeep, NotAffine, NameClash, TooManyParts, BadScop, NumberTooLarge, SecondScop, NotSolved, BetaClash, Limit, BadScript, NoBeta, BadLevel, BadArgument, NotALoop, Overflow, TooManyRows, Illegal, Different, NotClanForm, NotRecoverable, BadCertificate, OutsideFirstPath}
+use Rattle.suite_base.specs.declared.refusals.Refusal.TheVariants.{TooLong, NoRegion, OpenRegion, SecondRegion, BadToken, BadSyntax, TooDeep, NotAffine, NameClash, TooManyParts, BadScop, NumberTooLarge, SecondScop, NotSolved, BetaClash, Limit, BadScript, NoBeta, BadLevel, BadArgument, NotALoop, Overflow, TooManyRows, Illegal, Different, NotClanForm, NotRecoverable, BadCertificate}
 use Rattle.suite_base.specs.declared.refusals.Where.{Where}
 use Rattle.suite_base.specs.declared.refusals.Where.TheVariants.{Statement, Command, System}
 use Rattle.suite_base.specs.declared.refusals.Which.{Which}
@@ -75,7 +75,6 @@ fields_of (Different n) = one_field n
 fields_of (NotClanForm n) = one_field n
 fields_of (NotRecoverable n) = one_field n
 fields_of (BadCertificate n) = one_field n
-fields_of OutsideFirstPath = codes "\n"
 
 -- the line of a refusal of this file
 abbrev pub refusal_line : ℕ → Refusal → List ℕ

@@ -52,7 +52,6 @@ fn printed_fields(refusal: &Refusal) -> Fields
         Refusal::NotClanForm(n) => Fields::One(*n),
         Refusal::NotRecoverable(n) => Fields::One(*n),
         Refusal::BadCertificate(n) => Fields::One(*n),
-        Refusal::OutsideFirstPath => Fields::NoFields,
     }
 }
 
