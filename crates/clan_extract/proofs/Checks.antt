@@ -1,16 +1,33 @@
 -- Definitions on concrete data.
 use Rattle.std.proofs.Common.{◌≡◌, refl, List, [], ◌∷◌, ℕ, ℤ, pos, negsuc}
 use Rattle.std.specs.Prelude.{codes, true, false}
-use Rattle.scop_core.specs.Memory.{Cell, Initial, App, NoTerms, More}
-use Rattle.scop_core.specs.Meaning.{stamp, final}
-use Rattle.clan_extract.specs.Regions.{Number, Name, Sum, Negation, Ceiling, Floor, Remainder, IsLess, IsGreaterOrEqual, IsUnequal, Compare, Reference, Nodes, NoNodes, Then, For, If, Assign, parameters_of, arrays_of}
-use Rattle.clan_extract.specs.Execution.{loop_values, memory_after_region, Setting, value_of}
-use Rattle.clan_extract.specs.Translation.{OneLoop, one_loop_region, one_loop_scop}
-use Rattle.clan_extract.proofs.OneLoops.{instance_at, instances_at}
+use Rattle.scop_core.specs.ScopData.{ScopData}
+use Rattle.scop_core.specs.Memory.{Cell, Initial, App, NoTerms, More, initial}
+use Rattle.scop_core.specs.Meaning.{Instance, stamp, final}
+use Rattle.clan_extract.specs.Regions.{Number, Name, Sum, Negation, Ceiling, Floor, Remainder, IsLess, IsGreaterOrEqual, IsUnequal, Compare, Reference, Nodes, NoNodes, Then, For, If, Assign}
+use Rattle.clan_extract.specs.Execution.{loop_values, run_nodes, Setting, value_of}
+use Rattle.clan_extract.specs.Scops.{scop_of}
 
 -- for (i = 1; i < N; i++) A[i] = 0;
-abbrev pub sample : OneLoop
-sample = record { iterator = codes "i"; start = 1; parameter = codes "N"; array = codes "A"; text = codes "A[i] = 0;" }
+abbrev pub one_loop : Nodes
+one_loop =
+    Then (For (codes "i") (Number 1) IsLess (Name (codes "N")) (pos 1)
+    (Then (Assign (record {
+      text = codes "A[i] = 0;";
+      target = record { name = codes "A"; subscripts = Name (codes "i") ∷ [] };
+      updates = false;
+      right = [];
+    })) NoNodes)) NoNodes
+
+abbrev one_loop_scop : ScopData
+one_loop_scop = scop_of (codes "N" ∷ []) (codes "A" ∷ []) one_loop
+
+-- N is 3
+abbrev three_turns : Setting
+three_turns = record { parameters = codes "N" ∷ []; values = pos 3 ∷ []; arrays = codes "A" ∷ [] }
+
+abbrev instance_at : ℤ → Instance
+instance_at v = record { statement = 1; values = v ∷ [] }
 
 up_by_three : loop_values IsLess (pos 1) (pos 9) (pos 3) ≡ pos 1 ∷ (pos 4 ∷ (pos 7 ∷ []))
 up_by_three = refl
@@ -21,26 +38,20 @@ down_to_minus_one = refl
 no_turn : loop_values IsLess (pos 1) (negsuc 4) (pos 1) ≡ []
 no_turn = refl
 
-parameter_of_sample : parameters_of (one_loop_region sample) ≡ codes "N" ∷ []
-parameter_of_sample = refl
-
-array_of_sample : arrays_of (one_loop_region sample) ≡ codes "A" ∷ []
-array_of_sample = refl
-
 -- the second instance at N = 3 has the stamp 0, 2, 0
-stamp_of_second : stamp (one_loop_scop sample) (pos 3 ∷ []) (instance_at (pos 2)) ≡ pos 0 ∷ (pos 2 ∷ (pos 0 ∷ []))
+stamp_of_second : stamp one_loop_scop (pos 3 ∷ []) (instance_at (pos 2)) ≡ pos 0 ∷ (pos 2 ∷ (pos 0 ∷ []))
 stamp_of_second = refl
 
 -- at N = 3 the cell A[2] holds what the body computed there, and A[3] what it held at the start
-written : memory_after_region (one_loop_region sample) (pos 3 ∷ []) (record { array = pos 1; subscripts = pos 2 ∷ [] })
+written : run_nodes three_turns [] one_loop initial (record { array = pos 1; subscripts = pos 2 ∷ [] })
     ≡ App (codes "A[i] = 0;") (codes "i" ∷ []) 1 (pos 2 ∷ []) (pos 3 ∷ []) NoTerms
 written = refl
 
-unwritten : memory_after_region (one_loop_region sample) (pos 3 ∷ []) (record { array = pos 1; subscripts = pos 3 ∷ [] })
+unwritten : run_nodes three_turns [] one_loop initial (record { array = pos 1; subscripts = pos 3 ∷ [] })
     ≡ Initial (record { array = pos 1; subscripts = pos 3 ∷ [] })
 unwritten = refl
 
-same_in_scop : final (one_loop_scop sample) (pos 3 ∷ []) (instances_at (pos 1 ∷ (pos 2 ∷ []))) (record { array = pos 1; subscripts = pos 2 ∷ [] })
+same_in_scop : final one_loop_scop (pos 3 ∷ []) (instance_at (pos 1) ∷ (instance_at (pos 2) ∷ [])) (record { array = pos 1; subscripts = pos 2 ∷ [] })
     ≡ App (codes "A[i] = 0;") (codes "i" ∷ []) 1 (pos 2 ∷ []) (pos 3 ∷ []) NoTerms
 same_in_scop = refl
 
@@ -74,33 +85,23 @@ larger =
     })) NoNodes)
     (Then (Assign (record { text = codes "C = j;"; target = plain (codes "C"); updates = false; right = plain (codes "j") ∷ [] })) NoNodes)) NoNodes)) NoNodes)) NoNodes
 
--- M stands at no place of control, so it is an array
-parameters_of_larger : parameters_of larger ≡ codes "N" ∷ (codes "K" ∷ [])
-parameters_of_larger = refl
-
-arrays_of_larger : arrays_of larger ≡ codes "A" ∷ (codes "M" ∷ (codes "B" ∷ (codes "C" ∷ [])))
-arrays_of_larger = refl
+abbrev two_turns : Setting
+two_turns = record {
+  parameters = codes "N" ∷ (codes "K" ∷ []);
+  values = pos 4 ∷ (pos 10 ∷ []);
+  arrays = codes "A" ∷ (codes "M" ∷ (codes "B" ∷ (codes "C" ∷ [])));
+}
 
 -- at N = 4, K = 10 the outer loop takes 0 and 2: A[1] is updated once, at i = 2 and j = 1, from A[1], M and B[12]
 abbrev cell : ℤ → List ℤ → Cell
 cell array subscripts = record { array = array; subscripts = subscripts }
 
-updated_once : memory_after_region larger (pos 4 ∷ (pos 10 ∷ [])) (cell (pos 1) (pos 1 ∷ []))
+updated_once : run_nodes two_turns [] larger initial (cell (pos 1) (pos 1 ∷ []))
     ≡ App (codes "A[j] += M * B[i + K];") (codes "i" ∷ (codes "j" ∷ [])) 1 (pos 2 ∷ (pos 1 ∷ [])) (pos 4 ∷ (pos 10 ∷ []))
     (More (Initial (cell (pos 1) (pos 1 ∷ []))) (More (Initial (cell (pos 2) [])) (More (Initial (cell (pos 3) (pos 12 ∷ []))) NoTerms)))
 updated_once = refl
 
 -- C is written at i = 0 and j = 0 alone; the value of j is no access
-written_by_else : memory_after_region larger (pos 4 ∷ (pos 10 ∷ [])) (cell (pos 4) [])
+written_by_else : run_nodes two_turns [] larger initial (cell (pos 4) [])
     ≡ App (codes "C = j;") (codes "i" ∷ (codes "j" ∷ [])) 1 (pos 0 ∷ (pos 0 ∷ [])) (pos 4 ∷ (pos 10 ∷ [])) NoTerms
 written_by_else = refl
-
--- a plain name of a right side counts for the order of the parameters where it is one: { A = N; for (i = M; i < N; i++) A = i; }
-abbrev plain_first : Nodes
-plain_first =
-    Then (Assign (record { text = codes "A = N;"; target = plain (codes "A"); updates = false; right = plain (codes "N") ∷ [] }))
-    (Then (For (codes "i") (Name (codes "M")) IsLess (Name (codes "N")) (pos 1)
-    (Then (Assign (record { text = codes "A = i;"; target = plain (codes "A"); updates = false; right = plain (codes "i") ∷ [] })) NoNodes)) NoNodes)
-
-parameters_of_plain_first : parameters_of plain_first ≡ codes "N" ∷ (codes "M" ∷ [])
-parameters_of_plain_first = refl

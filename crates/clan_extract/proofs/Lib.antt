@@ -1,5 +1,4 @@
 pub mod Loops
-pub mod OneLoops
 pub mod Forms
 pub mod Holding
 pub mod Bounds

@@ -1,5 +1,5 @@
 -- The SCoPs of regions, as they are worked out by hand.
-use Rattle.std.proofs.Common.{◌≡◌, refl, List, [], ◌∷◌, ◌++◌, ℕ, zero, suc, ℤ, pos, negsuc, map, length, None}
+use Rattle.std.proofs.Common.{◌≡◌, refl, List, [], ◌∷◌, ◌++◌, ℕ, zero, suc, ℤ, pos, negsuc, map, length, None, Some}
 use Rattle.std.specs.Prelude.{codes, true, false}
 use Rattle.relation_core.specs.Systems.{System}
 use Rattle.relation_core.specs.declared.part_rows.PartRow.{PartRow}
@@ -10,8 +10,7 @@ use Rattle.scop_data.specs.declared.statements.Statement.{Statement}
 use Rattle.clan_extract.specs.Regions.{Expression, Number, Name, Sum, Difference, Product, Maximum, Minimum, Ceiling, Floor, Remainder, Comparison, IsLess, IsLessOrEqual, IsGreaterOrEqual, IsEqual, IsUnequal, Condition, Compare, Both, Either, Node, Nodes, NoNodes, Then, For, If, Block, Assign}
 use Rattle.clan_extract.specs.Constraints.{parts_of_condition}
 use Rattle.clan_extract.specs.Scops.{scop_of, is_head, are_affine_nodes}
-use Rattle.clan_extract.specs.Translation.{one_loop_region, one_loop_scop}
-use Rattle.clan_extract.proofs.Checks.{sample}
+use Rattle.clan_extract.proofs.Checks.{one_loop}
 
 abbrev pub i : List ℕ
 i = codes "i"
@@ -48,15 +47,34 @@ at_least entries = record { kind = AtLeast; entries = entries }
 abbrev equal : List ℤ → PartRow
 equal entries = record { kind = Equal; entries = entries }
 
+abbrev affine : ℤ → ℤ → ℤ → Affine
+affine iterator parameter constant = record { iterators = iterator ∷ []; floors = []; parameters = parameter ∷ []; constant = constant }
+
 abbrev domains : List (List ℕ) → Nodes → List (List System)
 domains parameters region = map (λ (s : Statement). s.domain) (scop_of parameters (A ∷ (B ∷ [])) region).statements
 
 abbrev betas_of : Nodes → List (List ℤ)
 betas_of region = map (λ (s : Statement). s.schedule.betas) (scop_of (N ∷ []) (A ∷ (B ∷ [])) region).statements
 
--- the SCoP of one loop is the one that stands beside it
-same_as_one_loop : scop_of (N ∷ []) (A ∷ []) (one_loop_region sample) ≡ one_loop_scop sample
-same_as_one_loop = refl
+-- for (i = 1; i < N; i++) A[i] = 0;
+abbrev statement_of_one_loop : Statement
+statement_of_one_loop = record {
+  domain = rows 1 0 1 (at_least (pos 1 ∷ (pos 0 ∷ (negsuc 0 ∷ []))) ∷ (at_least (negsuc 0 ∷ (pos 1 ∷ (negsuc 0 ∷ []))) ∷ [])) ∷ [];
+  schedule = record { floors = []; levels = affine (pos 1) (pos 0) (pos 0) ∷ []; betas = pos 0 ∷ (pos 0 ∷ []) };
+  accesses = record { kind = Write; array = pos 1; subscripts = affine (pos 1) (pos 0) (pos 0) ∷ [] } ∷ [];
+  body = record { text = codes "A[i] = 0;"; iterators = i ∷ [] };
+  extensions = [];
+}
+
+scop_of_one_loop : scop_of (N ∷ []) (A ∷ []) one_loop ≡ record {
+  language = codes "C";
+  context = rows 0 0 1 [];
+  parameters = Some (N ∷ []);
+  statements = statement_of_one_loop ∷ [];
+  arrays = Some ((pos 1, A) ∷ []);
+  extensions = [];
+}
+scop_of_one_loop = refl
 
 -- for (i = 0; i <= N; i++) for (j = 0; j <= N; j++) if (i < j || j == N) A[i] = 0; else B[j] = 0;
 abbrev with_else : Nodes
@@ -87,9 +105,6 @@ downward = loop i (Name N) IsGreaterOrEqual (Number 0) (negsuc 0) (one (Assign (
   updates = false;
   right = record { name = A; subscripts = Sum (Name i) (Number 1) ∷ [] } ∷ [];
 })))
-
-abbrev affine : ℤ → ℤ → ℤ → Affine
-affine iterator parameter constant = record { iterators = iterator ∷ []; floors = []; parameters = parameter ∷ []; constant = constant }
 
 abbrev first_statement : Statement
 first_statement = record {

@@ -3,9 +3,9 @@ use Rattle.std.specs.Prelude.{ℕ, zero, suc, ◌+◌, List, [], ◌∷◌, ◌+
 use Rattle.std.specs.Int.{int_max, int_min}
 use Rattle.std.specs.Ordering.{int_eq}
 use Rattle.scop_core.specs.Sequences.{fold_steps}
-use Rattle.scop_core.specs.Memory.{Cell, App, Memory, initial, stored, terms_at}
+use Rattle.scop_core.specs.Memory.{Cell, App, Memory, stored, terms_at}
 use Rattle.scop_core.specs.Meaning.{floor_of}
-use Rattle.clan_extract.specs.Regions.{Expression, Number, Name, Sum, Difference, Product, Negation, Maximum, Minimum, Ceiling, Floor, Remainder, Comparison, IsLess, IsLessOrEqual, IsGreater, IsGreaterOrEqual, IsEqual, IsUnequal, Condition, Compare, Both, Either, Opposite, Reference, Assignment, Node, For, If, Block, Assign, Nodes, NoNodes, Then, parameters_of, arrays_of, array_references, number_in}
+use Rattle.clan_extract.specs.Regions.{Expression, Number, Name, Sum, Difference, Product, Negation, Maximum, Minimum, Ceiling, Floor, Remainder, Comparison, IsLess, IsLessOrEqual, IsGreater, IsGreaterOrEqual, IsEqual, IsUnequal, Condition, Compare, Both, Either, Opposite, Reference, Assignment, Node, For, If, Block, Assign, Nodes, NoNodes, Then, array_references, number_in}
 
 -- a loop that is running: its name and the value that it has now
 pub record Binding : Type 0 where
@@ -103,14 +103,6 @@ abbrev mutual
   pub run_nodes : Setting → List Binding → Nodes → Memory → Memory
   run_nodes setting loops NoNodes m = m
   run_nodes setting loops (Then first rest) m = run_nodes setting loops rest (run_node setting loops first m)
-
--- a region with the values n of its parameters
-abbrev pub setting_of : Nodes → List ℤ → Setting
-setting_of region n = record { parameters = parameters_of region; values = n; arrays = arrays_of region }
-
--- the memory after the region, where n are the values of its parameters in the order of their first occurrence
-abbrev pub memory_after_region : Nodes → List ℤ → Memory
-memory_after_region region n = run_nodes (setting_of region n) [] region initial
 
 -- the values from v on, each a step from the last, as long as the test holds: at the one after the last it fails
 abbrev pub AsLongAs : (ℤ → Bool) → ℤ → ℤ → List ℤ → Type 0

@@ -1,5 +1,5 @@
--- The C region as a tree, and the numbers of its parameters and arrays by first occurrence.
-use Rattle.std.specs.Prelude.{ℕ, List, [], ◌∷◌, ◌++◌, ℤ, Bool, true, false, cond, not, ◌||◌, bytes_eq, filter, map, pos, ◌+ℤ◌, Option, None, Some}
+-- The C region as a tree, and the names and numbers of its parameters and arrays.
+use Rattle.std.specs.Prelude.{ℕ, List, [], ◌∷◌, ℤ, Bool, true, false, cond, not, ◌||◌, bytes_eq, filter, pos, ◌+ℤ◌, Option, None, Some}
 
 -- an expression at a place of control: a subscript, a start, a bound or a side of a comparison
 pub data Expression : Type 0 where
@@ -72,35 +72,6 @@ abbrev pub first_occurrences : List (List ℕ) → List (List ℕ)
 first_occurrences [] = []
 first_occurrences (x ∷ xs) = x ∷ without x (first_occurrences xs)
 
--- the names outside a scope
-abbrev pub outside : List (List ℕ) → List (List ℕ) → List (List ℕ)
-outside scope [] = []
-outside scope (x ∷ xs) = cond (is_among x scope) (outside scope xs) (x ∷ outside scope xs)
-
--- the names of an expression, of a condition and of a list of expressions, in the order of the text
-abbrev pub names_in : Expression → List (List ℕ)
-names_in (Number value) = []
-names_in (Name name) = name ∷ []
-names_in (Sum left right) = names_in left ++ names_in right
-names_in (Difference left right) = names_in left ++ names_in right
-names_in (Product left right) = names_in left ++ names_in right
-names_in (Negation of) = names_in of
-names_in (Maximum left right) = names_in left ++ names_in right
-names_in (Minimum left right) = names_in left ++ names_in right
-names_in (Ceiling of divisor) = names_in of
-names_in (Floor of divisor) = names_in of
-names_in (Remainder of divisor) = names_in of
-
-abbrev pub names_in_condition : Condition → List (List ℕ)
-names_in_condition (Compare comparison left right) = names_in left ++ names_in right
-names_in_condition (Both left right) = names_in_condition left ++ names_in_condition right
-names_in_condition (Either left right) = names_in_condition left ++ names_in_condition right
-names_in_condition (Opposite of) = names_in_condition of
-
-abbrev pub names_in_all : List Expression → List (List ℕ)
-names_in_all [] = []
-names_in_all (e ∷ es) = names_in e ++ names_in_all es
-
 -- there are no expressions
 abbrev pub is_empty : List Expression → Bool
 is_empty [] = true
@@ -110,27 +81,6 @@ is_empty (e ∷ es) = false
 abbrev pub is_plain : Reference → Bool
 is_plain reference = is_empty reference.subscripts
 
--- of a right side the plain names that are among the known ones, and the names of all subscripts
-abbrev pub names_in_right : List (List ℕ) → List Reference → List (List ℕ)
-names_in_right known [] = []
-names_in_right known (r ∷ rs) = cond (is_plain r) (cond (is_among r.name known) (r.name ∷ []) []) (names_in_all r.subscripts) ++ names_in_right known rs
-
--- the names outside the scope of a loop that stand at a place of control, or that are known and stand plain in a right side
-abbrev mutual
-  pub parameter_names : List (List ℕ) → List (List ℕ) → Node → List (List ℕ)
-  parameter_names known scope (For name start comparison bound step body) = outside scope (names_in start ++ names_in bound) ++ parameter_names_of_all known (name ∷ scope) body
-  parameter_names known scope (If condition then_nodes else_nodes) = outside scope (names_in_condition condition) ++ (parameter_names_of_all known scope then_nodes ++ parameter_names_of_all known scope else_nodes)
-  parameter_names known scope (Block nodes) = parameter_names_of_all known scope nodes
-  parameter_names known scope (Assign a) = outside scope (names_in_all a.target.subscripts ++ names_in_right known a.right)
-
-  pub parameter_names_of_all : List (List ℕ) → List (List ℕ) → Nodes → List (List ℕ)
-  parameter_names_of_all known scope NoNodes = []
-  parameter_names_of_all known scope (Then first rest) = parameter_names known scope first ++ parameter_names_of_all known scope rest
-
--- the parameters, in the order of their first occurrence; a plain name of a right side is one where it stands at a place of control anywhere
-abbrev pub parameters_of : Nodes → List (List ℕ)
-parameters_of region = first_occurrences (parameter_names_of_all (parameter_names_of_all [] [] region) [] region)
-
 -- an occurrence of an array: with subscripts, or plain and neither a loop's name in its scope nor a parameter
 abbrev pub is_array : List (List ℕ) → List (List ℕ) → Reference → Bool
 is_array parameters scope r = not (is_plain r) || not (is_among r.name scope || is_among r.name parameters)
@@ -138,22 +88,6 @@ is_array parameters scope r = not (is_plain r) || not (is_among r.name scope || 
 -- of these references those that are arrays
 abbrev pub array_references : List (List ℕ) → List (List ℕ) → List Reference → List Reference
 array_references parameters scope rs = filter (λ r. is_array parameters scope r) rs
-
--- the names of the arrays, at each of their occurrences
-abbrev mutual
-  pub array_names : List (List ℕ) → List (List ℕ) → Node → List (List ℕ)
-  array_names parameters scope (For name start comparison bound step body) = array_names_of_all parameters (name ∷ scope) body
-  array_names parameters scope (If condition then_nodes else_nodes) = array_names_of_all parameters scope then_nodes ++ array_names_of_all parameters scope else_nodes
-  array_names parameters scope (Block nodes) = array_names_of_all parameters scope nodes
-  array_names parameters scope (Assign a) = a.target.name ∷ map (λ r. r.name) (array_references parameters scope a.right)
-
-  pub array_names_of_all : List (List ℕ) → List (List ℕ) → Nodes → List (List ℕ)
-  array_names_of_all parameters scope NoNodes = []
-  array_names_of_all parameters scope (Then first rest) = array_names parameters scope first ++ array_names_of_all parameters scope rest
-
--- the arrays, in the order of their first occurrence
-abbrev pub arrays_of : Nodes → List (List ℕ)
-arrays_of region = first_occurrences (array_names_of_all (parameters_of region) [] region)
 
 -- the place of a name in a list, from 1
 abbrev pub number_in : List (List ℕ) → List ℕ → ℤ

@@ -6,23 +6,11 @@ ghost use Rattle.clan_extract.specs.Names.{NamesHaveOneRole, NamesAreListed};
 ghost use Rattle.clan_extract.specs.ReadBack.{ScopReadsBack};
 ghost use Rattle.clan_extract.specs.RowRanges.{RowsFitOnce};
 ghost use Rattle.clan_extract.specs.Scops.{ScopMeansItsRegion, ScopHasItsNames};
-ghost use Rattle.clan_extract.specs.Translation.{OneLoopMeansItsRegion, OneLoopHasItsNames};
 
 /// The values of a loop are its start and each next one, as long as the comparison with its bound
 /// holds; where its step goes toward the bound no count cuts them off.
 pub fn loops_run_as_long_as()
     ensures { LoopsRunAsLongAs }
-{}
-
-/// For all values of the parameter the SCoP of one loop has a run, whose final memory is the memory
-/// after the C region.
-pub fn one_loop_means_its_region()
-    ensures { OneLoopMeansItsRegion }
-{}
-
-/// The SCoP of one loop names the loop's parameter, and numbers its array by first occurrence.
-pub fn one_loop_has_its_names()
-    ensures { OneLoopHasItsNames }
 {}
 
 /// For all names of parameters and arrays and all values of the parameters, the SCoP of a region whose
