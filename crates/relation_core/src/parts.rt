@@ -41,6 +41,17 @@ impl Part {
         }
     }
 
+    /// The part without rows, with room for so many. Each number of `shape` is at most 65,536.
+    pub fn with_capacity(alloc: Global, shape: Shape, rows: usize) -> Result<Part, NoMemory>
+        requires { HasLimits shape }
+        ensures { IfOk result (λ part. part ≡ no_rows shape) }
+    {
+        Ok(Part {
+            shape,
+            rows: Vec::with_capacity(alloc, rows)?,
+        })
+    }
+
     /// Appends a row, which has one entry for each column and the constant. On want of memory the
     /// part is as before.
     pub fn push_row(&mut self, kind: RowKind, row: &[Coeff]) -> Result<(), NoMemory>

@@ -1,6 +1,6 @@
 //! A relation: a union of parts.
 
-ghost use Rattle.std.specs.Prelude.{◌≡◌, ◌<◌, [], ◌∷◌, ◌++◌, length, slice_get, OnOk, IfErr, OnSome};
+ghost use Rattle.std.specs.Prelude.{◌≡◌, ◌<◌, [], ◌∷◌, ◌++◌, length, slice_get, IfOk, OnOk, IfErr, OnSome};
 ghost use Rattle.std.specs.Option.{option_copied};
 
 use crate::parts::Part;
@@ -31,6 +31,15 @@ impl Relation {
         Relation {
             parts: Vec::new(alloc),
         }
+    }
+
+    /// The relation without parts, with room for so many.
+    pub fn with_capacity(alloc: Global, parts: usize) -> Result<Relation, NoMemory>
+        ensures { IfOk result (λ relation. relation ≡ []) }
+    {
+        Ok(Relation {
+            parts: Vec::with_capacity(alloc, parts)?,
+        })
     }
 
     /// Appends a part. On want of memory the part comes back, and the relation is as before.

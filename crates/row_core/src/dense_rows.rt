@@ -36,11 +36,20 @@ impl DenseRow {
         }
     }
 
+    // The empty row, with room for `capacity` entries.
+    fn with_capacity(alloc: Global, capacity: usize) -> Result<DenseRow, NoMemory>
+        ensures { IfOk result (λ row. row ≡ []) }
+    {
+        Ok(DenseRow {
+            coeffs: SmallVec::with_capacity(alloc, capacity)?,
+        })
+    }
+
     /// The row of these coefficients.
     pub fn from_coeffs(alloc: Global, coeffs: &[Coeff]) -> Result<DenseRow, NoMemory>
         ensures { IfOk result (λ row. row ≡ coeffs.now) }
     {
-        let mut row = DenseRow::new(alloc);
+        let mut row = DenseRow::with_capacity(alloc, coeffs.len())?;
         for coeff in coeffs {
             row.push(*coeff)?;
         }

@@ -139,7 +139,7 @@ fn levels_of(alloc: Global, part: &Part, n: usize) -> Result<List<Affine>, NoMem
     ensures sizes { IfOk result (All (HasSizes part.now.shape.inputs part.now.shape.locals part.now.shape.parameters)) }
     ensures count { IfOk result (λ levels. length levels ≡ n) }
 {
-    let mut made = List::new(alloc);
+    let mut made = List::with_capacity(alloc, n)?;
     for k in 0..n {
         push_level(alloc, part, k, &mut made)?;
     }
@@ -165,7 +165,7 @@ fn betas_of(alloc: Global, part: &Part, n: usize) -> Result<List<Coeff>, NoMemor
     ensures betas { IfOk result (λ betas. betas ≡ betas_from part.now 0 n) }
     ensures count { IfOk result (λ betas. length betas ≡ n) }
 {
-    let mut made = List::new(alloc);
+    let mut made = List::with_capacity(alloc, n)?;
     for k in 0..n {
         push_beta(alloc, part, k, &mut made)?;
     }
@@ -196,7 +196,7 @@ fn floors_of(alloc: Global, part: &Part, n: usize) -> Result<List<Floor>, NoMemo
     ensures pairs { IfOk result PairsFit }
     ensures count { IfOk result (λ floors. length floors ≡ n) }
 {
-    let mut made = List::new(alloc);
+    let mut made = List::with_capacity(alloc, n)?;
     for k in 0..n {
         push_floor(alloc, part, k, &mut made)?;
     }
@@ -278,7 +278,7 @@ fn subscripts_of(alloc: Global, part: &Part, n: usize) -> Result<List<Affine>, N
     ensures sizes { IfOk result (All (HasSizes part.now.shape.inputs part.now.shape.locals part.now.shape.parameters)) }
     ensures count { IfOk result (λ values. length values ≡ n) }
 {
-    let mut made = List::new(alloc);
+    let mut made = List::with_capacity(alloc, n)?;
     for k in 0..n {
         push_subscript(alloc, part, k, &mut made)?;
     }

@@ -1,11 +1,11 @@
 -- Arrays with distinct identifiers, one after the other.
-use Rattle.std.proofs.Common.{◌≡◌, ℕ, zero, suc, ◌+◌, ◌<◌, Bool, true, false, ◌&&◌, not, List, [], ◌∷◌, ◌++◌, length, drop, get_or, ℤ, Some, refl, ap, sym, ◌∙◌, subst, arith, append_assoc, if◌then◌else◌}
+use Rattle.std.proofs.Common.{◌≡◌, ℕ, ◌+◌, ◌<◌, true, false, not, List, [], ◌∷◌, ◌++◌, length, drop, get_or, ℤ, Some, refl, ap, sym, ◌∙◌, append_assoc, if◌then◌else◌}
 use Rattle.std.specs.Prelude.{slice_get}
 use Rattle.std.specs.Ordering.{int_eq}
 use Rattle.std.proofs.lemmas.Bool.Decides.{Decides-int_eq}
 use Rattle.std.proofs.lemmas.Option.{slice_get_within, get_or_from_slice_get}
 use Rattle.indexmap.specs.IndexMap.{insert_entry}
-use Rattle.scop_core.specs.Printable.{are_arrays, has_no_array, is_name}
+use Rattle.scop_core.specs.Printable.{are_arrays, has_no_array}
 use Rattle.schedule_forms.proofs.SolvedShapes.{both}
 use Rattle.scop_core.proofs.Assemblies.{item_drop}
 use Rattle.scop_core.proofs.Validities.{both_hold}

@@ -1,7 +1,9 @@
 -- Steps of assembling a SCoP.
-use Rattle.std.proofs.Common.{◌≡◌, ℕ, zero, suc, ◌+◌, ◌-◌, ◌<◌, ◌≤◌, Bool, true, false, ◌&&◌, List, [], ◌∷◌, ◌++◌, length, refl, ap, sym, ◌∙◌, arith, append_assoc, subst, add-one, get_or, drop, Some, None, if◌then◌else◌}
+use Rattle.std.proofs.Common.{◌≡◌, ℕ, zero, suc, ◌+◌, ◌-◌, ◌<◌, Bool, true, false, ◌&&◌, List, [], ◌∷◌, ◌++◌, length, refl, ap, sym, ◌∙◌, arith, append_assoc, subst, add-one, get_or, drop, Some, None, if◌then◌else◌}
 use Rattle.std.specs.Fmt.{decimal}
-use Rattle.std.specs.Prelude.{All, Option}
+use Rattle.std.specs.Prelude.{All, Option, slice_get}
+use Rattle.std.proofs.lemmas.Option.{get_or_from_slice_get}
+use Rattle.std.proofs.lemmas.List.{get_or-drop, drop-drop}
 use Rattle.std.proofs.lemmas.List.Elements.{All-push, All-head, All-weaker}
 use Rattle.relation_core.specs.Systems.{System}
 use Rattle.suite_base.specs.declared.refusals.Refusal.TheVariants.{NotSolved}
@@ -47,6 +49,17 @@ item_drop (y ∷ xs) (suc i) x h e = rw add-one (rw add-one at (item_drop xs i x
 
 pub item_has : {X : Type 0} (P : X → Type 0) (xs : List X) (i : ℕ) (x : X) → i < length xs → x ≡ get_or xs i x → All P xs → P x
 item_has P xs i x h e all = subst P (sym e) (all i x h)
+
+dropped_first : {X : Type 0} (xs : List X) (i : ℕ) (x : X) → get_or (drop i xs) 0 x ≡ get_or xs i x
+dropped_first xs i x = get_or-drop i xs 0 x ∙ ap (λ n. get_or xs n x) (omega arith)
+
+-- what stands at place i of a list stands there in one with the same end from there on
+pub item_kept : {X : Type 0} (now xs : List X) (i : ℕ) (x : X) → slice_get now i ≡ Some x → drop i now ≡ drop i xs → x ≡ get_or xs i x
+item_kept now xs i x e r =
+    sym (get_or_from_slice_get now i x x e) ∙ (sym (dropped_first now i x) ∙ (ap (λ l. get_or l 0 x) r ∙ dropped_first xs i x))
+
+pub rest_kept : {X : Type 0} (new now xs : List X) (i : ℕ) → drop (i + 1) new ≡ drop (i + 1) now → drop i now ≡ drop i xs → drop (i + 1) new ≡ drop (i + 1) xs
+rest_kept new now xs i e r = e ∙ (sym (drop-drop 1 i now) ∙ (ap (λ l. drop 1 l) r ∙ drop-drop 1 i xs))
 
 next_made : {X : Type 0} (made new rest more whole : List X) (x : X) → new ≡ made ++ x ∷ [] → rest ≡ x ∷ more → made ++ rest ≡ whole → new ++ more ≡ whole
 next_made made new rest more whole x e r w = rw (e, append_assoc) (ap (λ t. made ++ t) (sym r) ∙ w)

@@ -1,9 +1,8 @@
 -- Definitions on concrete data.
-use Rattle.std.proofs.Common.{◌≡◌, ◌⊎◌, refl, sym, subst, Some, None, inl, inr, ℕ, zero, suc, ◌+◌, ◌<◌, ◌≤◌, List, [], ◌∷◌, length, get_or, ap, arith, ℤ, pos, negsuc, neg_ℤ, ◌≤ℤ◌}
+use Rattle.std.proofs.Common.{◌≡◌, ◌⊎◌, refl, sym, subst, Some, None, inl, inr, ℕ, zero, suc, ◌<◌, List, [], ◌∷◌, length, get_or, ap, arith, ℤ, pos, negsuc, ◌≤ℤ◌}
 use Rattle.std.specs.Prelude.{codes, All}
 use Rattle.std.proofs.lemmas.Int.{ints, by_lt_z}
 use Rattle.std.proofs.lemmas.List.Elements.{All-nil, All-cons}
-use Rattle.row_core.specs.Rows.{entry}
 use Rattle.relation_core.specs.Systems.{System}
 use Rattle.relation_core.specs.Points.{MeetsAll, coordinates}
 use Rattle.relation_core.specs.declared.part_rows.RowKind.TheVariants.{AtLeast}

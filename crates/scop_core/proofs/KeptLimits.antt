@@ -1,14 +1,13 @@
 -- Pieces without a refusal give a SCoP that keeps all limits.
-use Rattle.std.proofs.Common.{◌≡◌, ℕ, zero, suc, ◌+◌, ◌-◌, ◌/◌, ◌^◌, ◌<◌, ◌≤◌, Bool, true, false, ◌&&◌, ◌||◌, nat_lt, List, [], ◌∷◌, ◌++◌, length, ℤ, refl, ap, sym, ◌∙◌, subst, arith, Option, Some, None, if◌then◌else◌}
+use Rattle.std.proofs.Common.{◌≡◌, ℕ, zero, suc, ◌+◌, ◌-◌, ◌/◌, ◌^◌, ◌<◌, ◌≤◌, Bool, true, false, ◌||◌, nat_lt, List, [], ◌∷◌, length, ℤ, refl, ap, sym, ◌∙◌, subst, arith, Option, Some, None}
 use Rattle.std.specs.Prelude.{All, IfSome}
 use Rattle.std.proofs.lemmas.Bool.Decides.{nat_tests}
 use Rattle.std.proofs.lemmas.List.{length-map}
-use Rattle.std.proofs.lemmas.List.Elements.{All-cons, All-nil, All-head, All-tail, All-weaker}
-use Rattle.suite_base.specs.declared.refusals.Refusal.TheVariants.{Limit, NotSolved}
+use Rattle.std.proofs.lemmas.List.Elements.{All-cons, All-nil, All-head, All-tail}
+use Rattle.suite_base.specs.declared.refusals.Refusal.TheVariants.{Limit}
 use Rattle.suite_base.specs.declared.refusals.Which.TheVariants.{Statements, Iterators, Parameters, Levels, Locals, Rows, Parts, Accesses, Subscripts, Arrays}
 use Rattle.relation_core.specs.Systems.{System}
 use Rattle.scop_data.specs.declared.accesses.AccessKind.{AccessKind}
-use Rattle.scop_data.specs.declared.accesses.Access.{Access}
 use Rattle.scop_core.specs.declared.limits.PartCount.{PartCount}
 use Rattle.scop_core.specs.declared.limits.PartCount.TheVariants.{OutputCount, LocalCount, RowCount}
 use Rattle.scop_data.specs.declared.statements.Body.{Body}
@@ -16,10 +15,10 @@ use Rattle.scop_data.specs.declared.statements.Statement.{Statement}
 use Rattle.scop_data.specs.declared.raw_pieces.RawStatement.{RawStatement}
 use Rattle.scop_data.specs.declared.raw_pieces.ScopPieces.{ScopPieces}
 use Rattle.schedule_forms.specs.SolvedForm.{floors_from, levels_from, values_from, is_scattering}
-use Rattle.scop_core.specs.Assembly.{array_count, count_of, some_above, accesses_above, statement_above, has_many_parts, accesses_many, whole_limit, statement_limit, first_limit, is_one, is_solved, the_part, first_unsolved, first_clash, iterators_of, default_names, body_from, solved_accesses, solved_statement, solved_statements, early_refusal_of, scop_of, HasNames, HasShapes}
+use Rattle.scop_core.specs.Assembly.{array_count, count_of, some_above, accesses_above, statement_above, has_many_parts, whole_limit, statement_limit, first_limit, is_one, is_solved, the_part, first_unsolved, first_clash, iterators_of, default_names, body_from, solved_accesses, solved_statement, solved_statements, early_refusal_of, scop_of, HasNames}
 use Rattle.scop_data.specs.ScopData.{ScopData, arrays_of, betas_in}
 use Rattle.scop_core.specs.Printable.{IsPrintable}
-use Rattle.scop_core.specs.Validity.{IsValid, IsAssembled}
+use Rattle.scop_core.specs.Validity.{IsValid}
 use Rattle.scop_core.specs.KeptLimits.{StatementKeepsLimits, KeepsLimits}
 use Rattle.schedule_forms.proofs.SolvedShapes.{both}
 use Rattle.scop_core.proofs.Assemblies.{the_part_has, length_solved, shapes_names, unsolved_first}

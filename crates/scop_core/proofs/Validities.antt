@@ -1,10 +1,9 @@
 -- What stays true of a SCoP when an extension takes the place of others.
-use Rattle.std.proofs.Common.{◌≡◌, ℕ, Bool, true, false, ◌&&◌, not, List, [], ◌∷◌, ◌++◌, None, refl, ap, sym, ◌∙◌, subst, if◌then◌else◌}
+use Rattle.std.proofs.Common.{◌≡◌, ℕ, Bool, true, false, ◌&&◌, List, [], ◌∷◌, ◌++◌, refl, ap, sym, subst, if◌then◌else◌}
 use Rattle.std.specs.Str.{bytes_eq}
 use Rattle.scop_data.specs.declared.statements.Extension.{Extension}
 use Rattle.scop_data.specs.declared.raw_pieces.ScopPieces.{ScopPieces}
 use Rattle.scop_data.specs.ScopData.{ScopData, others, extended}
-use Rattle.scop_core.specs.Assembly.{refusal_of, scop_of}
 use Rattle.scop_core.specs.Printable.{IsPrintable, arrays_name, is_kept, are_kept}
 use Rattle.scop_core.specs.Validity.{IsAssembled, IsValid}
 use Rattle.schedule_forms.proofs.SolvedShapes.{both}

@@ -1,13 +1,13 @@
 -- What the pieces of a SCoP give: the first refusal in the stated order, or the SCoP.
-use Rattle.std.specs.Prelude.{ℤ, pos, ℕ, zero, suc, ◌+◌, ◌≡◌, Bool, true, false, not, ◌&&◌, ◌||◌, nat_lt, if◌then◌else◌, List, [], ◌∷◌, ◌++◌, Option, None, Some, length, All, IfSome}
+use Rattle.std.specs.Prelude.{ℤ, ℕ, zero, suc, ◌+◌, ◌*◌, ◌≡◌, Bool, true, false, ◌&&◌, ◌||◌, nat_lt, if◌then◌else◌, List, [], ◌∷◌, ◌++◌, Option, None, Some, length, All, IfSome}
 use Rattle.std.specs.Fmt.{decimal}
 use Rattle.std.specs.Ordering.{int_eq}
 use Rattle.suite_base.specs.declared.refusals.Refusal.{Refusal}
 use Rattle.suite_base.specs.declared.refusals.Refusal.TheVariants.{NotSolved, BetaClash, Limit}
-use Rattle.suite_base.specs.declared.refusals.Which.{Which}
 use Rattle.suite_base.specs.declared.refusals.Which.TheVariants.{Statements, Iterators, Parameters, Levels, Locals, Rows, Parts, Accesses, Subscripts, Arrays}
 use Rattle.suite_base.specs.declared.refusals.Fail.{Fail}
 use Rattle.suite_base.specs.declared.refusals.Fail.TheVariants.{Memory, Refused}
+use Rattle.suite_base.specs.Limits.{max_statements, max_iterators, max_parameters, max_levels, max_locals, max_rows, max_parts, max_accesses, max_subscripts, max_arrays}
 use Rattle.relation_core.specs.Systems.{System}
 use Rattle.scop_data.specs.declared.accesses.AccessKind.{AccessKind}
 use Rattle.scop_data.specs.declared.accesses.Access.{Access}
@@ -51,33 +51,33 @@ abbrev pub statement_above : PartCount → ℕ → RawStatement → Bool
 statement_above count most raw =
     some_above count most raw.domain || (some_above count most raw.scattering || accesses_above count most raw.accesses)
 
--- some access has more than 64 parts
+-- some access has too many parts
 abbrev pub accesses_many : List (AccessKind × List System) → Bool
 accesses_many [] = false
-accesses_many (access ∷ accesses) = nat_lt 64 (length access.1) || accesses_many accesses
+accesses_many (access ∷ accesses) = nat_lt max_parts (length access.1) || accesses_many accesses
 
 -- some relation of a statement has
 abbrev pub has_many_parts : RawStatement → Bool
-has_many_parts raw = nat_lt 64 (length raw.domain) || (nat_lt 64 (length raw.scattering) || accesses_many raw.accesses)
+has_many_parts raw = nat_lt max_parts (length raw.domain) || (nat_lt max_parts (length raw.scattering) || accesses_many raw.accesses)
 
 -- the first limit that the whole passes: statements, parameters, rows of the context, arrays
 abbrev pub whole_limit : ScopPieces → Option Refusal
 whole_limit pieces =
-    if nat_lt 1024 (length pieces.statements) then Some (Limit Statements 0)
-    else (if nat_lt 16 pieces.context.shape.parameters then Some (Limit Parameters 0)
-    else (if nat_lt 256 (length pieces.context.rows) then Some (Limit Rows 0)
-    else (if nat_lt 4096 (array_count pieces.arrays) then Some (Limit Arrays 0) else None)))
+    if nat_lt max_statements (length pieces.statements) then Some (Limit Statements 0)
+    else (if nat_lt max_parameters pieces.context.shape.parameters then Some (Limit Parameters 0)
+    else (if nat_lt max_rows (length pieces.context.rows) then Some (Limit Rows 0)
+    else (if nat_lt max_arrays (array_count pieces.arrays) then Some (Limit Arrays 0) else None)))
 
 -- the first limit that statement number k passes
 abbrev pub statement_limit : ℕ → RawStatement → Option Refusal
 statement_limit k raw =
-    if some_above OutputCount 12 raw.domain then Some (Limit Iterators k)
-    else (if some_above OutputCount 49 raw.scattering then Some (Limit Levels k)
-    else (if statement_above LocalCount 24 raw then Some (Limit Locals k)
-    else (if statement_above RowCount 256 raw then Some (Limit Rows k)
+    if some_above OutputCount max_iterators raw.domain then Some (Limit Iterators k)
+    else (if some_above OutputCount (2 * max_levels + 1) raw.scattering then Some (Limit Levels k)
+    else (if statement_above LocalCount max_locals raw then Some (Limit Locals k)
+    else (if statement_above RowCount max_rows raw then Some (Limit Rows k)
     else (if has_many_parts raw then Some (Limit Parts k)
-    else (if nat_lt 256 (length raw.accesses) then Some (Limit Accesses k)
-    else (if accesses_above OutputCount 13 raw.accesses then Some (Limit Subscripts k) else None))))))
+    else (if nat_lt max_accesses (length raw.accesses) then Some (Limit Accesses k)
+    else (if accesses_above OutputCount (max_subscripts + 1) raw.accesses then Some (Limit Subscripts k) else None))))))
 
 -- the first limit of the first statement that passes one; the first statement has number k
 abbrev pub first_limit : ℕ → List RawStatement → Option Refusal

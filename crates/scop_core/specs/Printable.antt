@@ -1,11 +1,11 @@
 -- When pieces can be printed and read back: names that are words, texts that keep to their lines, relations
 -- with the shapes that a text gives them.
-use Rattle.std.specs.Prelude.{ℤ, pos, ℕ, ◌≡◌, Bool, true, false, not, ◌&&◌, ◌||◌, ◌==◌, nat_le, List, [], ◌∷◌, ◌++◌, length, reverse, IfSome, All, codes, int_le}
+use Rattle.std.specs.Prelude.{ℤ, pos, ℕ, ◌≡◌, Bool, true, false, not, ◌&&◌, ◌==◌, List, [], ◌∷◌, ◌++◌, length, reverse, IfSome, All, codes, int_le}
 use Rattle.std.specs.Ordering.{int_eq}
 use Rattle.std.specs.Str.{bytes_eq}
 use Rattle.suite_base.specs.Lines.{trim}
 use Rattle.suite_base.specs.Words.{begins_word, is_word, spaced}
-use Rattle.suite_base.specs.Numbers.{is_digit}
+use Rattle.suite_base.specs.Bytes.{begins_name, is_name_byte}
 use Rattle.relation_core.specs.Systems.{System}
 use Rattle.scop_data.specs.declared.statements.Body.{Body}
 use Rattle.scop_data.specs.declared.statements.Extension.{Extension}
@@ -50,18 +50,14 @@ abbrev pub is_body : Body → Bool
 is_body body =
     are_names body.iterators && not (bytes_eq (spaced body.iterators) (end_line body_name)) && is_body_line body.text
 
--- a letter or `_`
-abbrev pub is_letter : ℕ → Bool
-is_letter b = (nat_le 65 b && nat_le b 90) || ((nat_le 97 b && nat_le b 122) || (b == 95))
-
-abbrev pub are_letters_or_digits : List ℕ → Bool
-are_letters_or_digits [] = true
-are_letters_or_digits (b ∷ bytes) = (is_letter b || is_digit b) && are_letters_or_digits bytes
+abbrev pub are_name_bytes : List ℕ → Bool
+are_name_bytes [] = true
+are_name_bytes (b ∷ bytes) = is_name_byte b && are_name_bytes bytes
 
 -- the name of an extension: letters, digits and `_`, the first no digit
 abbrev pub is_extension_name : List ℕ → Bool
 is_extension_name [] = false
-is_extension_name (b ∷ name) = is_letter b && are_letters_or_digits name
+is_extension_name (b ∷ name) = begins_name b && are_name_bytes name
 
 -- lines that can stand in an extension of this name: none of them ends it
 abbrev pub are_kept_lines : List ℕ → List (List ℕ) → Bool

@@ -1,7 +1,8 @@
 //! Statements in solved form, made of raw ones.
 
-ghost use Rattle.std.specs.Prelude.{◌≡◌, ◌<◌, ◌≤◌, ◌+◌, [], ◌∷◌, ◌++◌, length, true, None, All, IfOk, IfSome, OnOk, ℕ};
+ghost use Rattle.std.specs.Prelude.{◌≡◌, ◌<◌, ◌≤◌, ◌+◌, [], ◌∷◌, ◌++◌, length, drop, slice_get, true, None, Some, All, IfOk, IfSome, OnOk, ℕ};
 ghost use Rattle.std.specs.Fmt.{decimal};
+ghost use Rattle.suite_base.specs.Limits.{max_statements};
 ghost use Rattle.scop_data.specs.SolvedRows.{HasRelation, HasAccessRelation};
 ghost use Rattle.schedule_forms.specs.SolvedForm.{is_scattering, is_access, schedule_of, access_of};
 ghost use Rattle.scop_core.specs.Assembly.{is_one, the_part, are_solved, is_solved, first_unsolved, iterators_of, default_names, body_from, solved_accesses, solved_statement, solved_statements, HasInputs, HasNames, HasShapes};
@@ -9,7 +10,6 @@ ghost use Rattle.scop_data.specs.SolvedData.{HasRelations};
 
 use relation_core::Relation;
 use schedule_forms::{solved_access, solved_schedule, solves_access, solves_schedule};
-use scop_data::copies::{copied_body, copied_extensions, copied_relation};
 use scop_data::{Access, AccessKind, Body, RawStatement, Schedule, Statement};
 use std::alloc::Global;
 use suite_base::{List, NoMemory, Refusal, Text};
@@ -116,16 +116,16 @@ fn body_of(
     alloc: Global,
     number: usize,
     iterators: usize,
-    body: &Option<Body>,
+    body: Option<Body>,
 ) -> Result<Body, NoMemory>
     requires limit { iterators ≤ 65536 }
-    requires names { IfSome body.now (λ own. length own.iterators ≡ iterators) }
-    ensures body { IfOk result (λ made. made ≡ body_from number iterators body.now) }
+    requires names { IfSome body (λ own. length own.iterators ≡ iterators) }
+    ensures body { IfOk result (λ made. made ≡ body_from number iterators body) }
     ensures count { IfOk result (λ made. length made.iterators ≡ iterators) }
 {
     match body {
         None => default_body(alloc, number, iterators),
-        Some(own) => copied_body(alloc, own),
+        Some(own) => Ok(own),
     }
 }
 
@@ -177,68 +177,92 @@ fn accesses_from(
     ensures accesses { IfOk result (λ made. made ≡ solved_accesses accesses.now) }
     ensures printable { IfOk result (λ made. (d p : ℕ) → All (λ access. All (HasInputs d p) access.1) accesses.now → All (HasAccessRelation d p) made) }
 {
-    let mut made = List::new(alloc);
+    let mut made = List::with_capacity(alloc, accesses.len())?;
     for access in accesses {
         push_access(alloc, access, &mut made)?;
     }
     Ok(made)
 }
 
-// Statement number `number` in solved form.
-fn statement_from(alloc: Global, number: usize, raw: &RawStatement) -> Result<Statement, NoMemory>
-    requires solved { is_solved raw.now ≡ true }
-    requires names { HasNames raw.now }
-    ensures statement { IfOk result (λ made. made ≡ solved_statement number raw.now) }
-    ensures printable { IfOk result (λ made. (p : ℕ) → HasShapes p raw.now → HasRelations p made) }
+// Statement number `number` in solved form. What needs no solving is moved.
+fn statement_from(alloc: Global, number: usize, raw: RawStatement) -> Result<Statement, NoMemory>
+    requires solved { is_solved raw ≡ true }
+    requires names { HasNames raw }
+    ensures statement { IfOk result (λ made. made ≡ solved_statement number raw) }
+    ensures printable { IfOk result (λ made. (p : ℕ) → HasShapes p raw → HasRelations p made) }
 {
-    let domain = copied_relation(alloc, &raw.domain)?;
+    let iterators = iterator_count(&raw);
     let schedule = schedule_from(alloc, &raw.scattering)?;
     let accesses = accesses_from(alloc, raw.accesses.as_slice())?;
-    let body = body_of(alloc, number, iterator_count(raw), &raw.body)?;
-    let extensions = copied_extensions(alloc, raw.extensions.as_slice())?;
+    let body = body_of(alloc, number, iterators, raw.body)?;
     Ok(Statement {
-        domain,
+        domain: raw.domain,
         schedule,
         accesses,
         body,
-        extensions,
+        extensions: raw.extensions,
     })
+}
+
+// A statement without anything.
+fn hollow(alloc: Global) -> RawStatement {
+    RawStatement {
+        domain: Relation::new(alloc),
+        scattering: Relation::new(alloc),
+        accesses: List::new(alloc),
+        body: None,
+        extensions: List::new(alloc),
+    }
+}
+
+// Takes the statement at place `k` out, and leaves a hollow one there.
+fn taken(alloc: Global, raws: &mut List<RawStatement>, k: usize) -> RawStatement
+    requires place { k < length raws.old }
+    ensures item { slice_get raws.old k ≡ Some result }
+    ensures count { length raws.new ≡ length raws.old }
+    ensures rest { drop (k + 1) raws.new ≡ drop (k + 1) raws.old }
+{
+    raws.set(k, hollow(alloc))
 }
 
 // Appends statement number `number` in solved form.
 fn push_statement(
     alloc: Global,
     number: usize,
-    raw: &RawStatement,
+    raw: RawStatement,
     made: &mut List<Statement>,
 ) -> Result<(), NoMemory>
-    requires solved { is_solved raw.now ≡ true }
-    requires names { HasNames raw.now }
-    ensures made { OnOk result (made.new ≡ made.old ++ solved_statement number raw.now ∷ []) }
-    ensures printable { OnOk result ((p : ℕ) → HasShapes p raw.now → All (HasRelations p) made.old → All (HasRelations p) made.new) }
+    requires solved { is_solved raw ≡ true }
+    requires names { HasNames raw }
+    ensures made { OnOk result (made.new ≡ made.old ++ solved_statement number raw ∷ []) }
+    ensures printable { OnOk result ((p : ℕ) → HasShapes p raw → All (HasRelations p) made.old → All (HasRelations p) made.new) }
 {
     let one = statement_from(alloc, number, raw)?;
     made.push(one)?;
     Ok(())
 }
 
-/// The statements in solved form.
-pub fn statements_from(alloc: Global, raws: &[RawStatement]) -> Result<List<Statement>, NoMemory>
-    requires solved { first_unsolved 1 raws.now ≡ None }
-    requires names { All HasNames raws.now }
-    ensures statements { IfOk result (λ made. made ≡ solved_statements 1 raws.now) }
-    ensures printable { IfOk result (λ made. (p : ℕ) → All (HasShapes p) raws.now → All (HasRelations p) made) }
+/// The statements in solved form. Each raw one is let go as soon as it is solved.
+pub fn statements_from(
+    alloc: Global,
+    mut raws: List<RawStatement>,
+) -> Result<List<Statement>, NoMemory>
+    requires solved { first_unsolved 1 raws ≡ None }
+    requires names { All HasNames raws }
+    ensures statements { IfOk result (λ made. made ≡ solved_statements 1 raws) }
+    ensures printable { IfOk result (λ made. (p : ℕ) → All (HasShapes p) raws → All (HasRelations p) made) }
 {
-    let mut made = List::new(alloc);
+    let mut made = List::with_capacity(alloc, raws.len())?;
     for k in 0..raws.len() {
-        push_statement(alloc, k + 1, &raws[k], &mut made)?;
+        let raw = taken(alloc, &mut raws, k);
+        push_statement(alloc, k + 1, raw, &mut made)?;
     }
     Ok(made)
 }
 
 /// The first statement that is not in solved form.
 pub fn unsolved_statement(alloc: Global, raws: &[RawStatement]) -> Result<Option<Refusal>, NoMemory>
-    requires { length raws.now ≤ 1024 }
+    requires { length raws.now ≤ max_statements }
     ensures { IfOk result (λ refusal. refusal ≡ first_unsolved 1 raws.now) }
 {
     for k in 0..raws.len() {

@@ -1,6 +1,7 @@
 //! Beta vectors that are equal, or of which one is a prefix of the other.
 
 ghost use Rattle.std.specs.Prelude.{◌≡◌, ◌<◌, ◌≤◌, ◌+◌, [], length};
+ghost use Rattle.suite_base.specs.Limits.{max_statements};
 ghost use Rattle.scop_core.specs.Assembly.{vectors_clash, clash_among, first_clash};
 
 use row_core::Coeff;
@@ -30,7 +31,7 @@ fn do_clash(a: &[Coeff], b: &[Coeff]) -> bool
 
 // The clash of statement number `j`, which has these betas, with the first of those before it.
 fn clash_with(before: &[Statement], j: u32, betas: &[Coeff]) -> Option<Refusal>
-    requires { length before.now ≤ 1024 }
+    requires { length before.now ≤ max_statements }
     ensures { result ≡ clash_among 1 j before.now betas.now }
 {
     for i in 0..before.len() {
@@ -43,7 +44,7 @@ fn clash_with(before: &[Statement], j: u32, betas: &[Coeff]) -> Option<Refusal>
 
 /// The first clash of a statement with one before it.
 pub fn statements_clash(statements: &[Statement]) -> Option<Refusal>
-    requires { length statements.now ≤ 1024 }
+    requires { length statements.now ≤ max_statements }
     ensures { result ≡ first_clash 1 [] statements.now }
 {
     for k in 0..statements.len() {

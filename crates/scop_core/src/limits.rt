@@ -1,12 +1,16 @@
 //! The limits of a SCoP, in the order in which they are refused.
 
 ghost use Rattle.std.specs.Prelude.{◌≡◌, ◌<◌, ◌≤◌, ◌+◌, ◌||◌, length, None, nat_lt, MatchOption};
+ghost use Rattle.suite_base.specs.Limits.{max_statements};
 ghost use Rattle.scop_core.specs.Assembly.{array_count, count_of, some_above, accesses_above, statement_above, accesses_many, has_many_parts, whole_limit, statement_limit, first_limit};
 
 use relation_core::{Part, Relation};
 use row_core::Coeff;
 use scop_data::{AccessKind, RawStatement, ScopPieces};
-use suite_base::{List, Refusal, Text, Which};
+use suite_base::{
+    List, MAX_ACCESSES, MAX_ARRAYS, MAX_ITERATORS, MAX_LEVELS, MAX_LOCALS, MAX_PARAMETERS,
+    MAX_PARTS, MAX_ROWS, MAX_STATEMENTS, MAX_SUBSCRIPTS, Refusal, Text, Which,
+};
 
 /// What is counted of a part.
 #[derive(Clone, Copy, Debug, PartialEq, Eq)]
@@ -61,24 +65,24 @@ fn statement_passes(count: PartCount, most: usize, raw: &RawStatement) -> bool
         || accesses_pass(count, most, raw.accesses.as_slice())
 }
 
-// Whether any access has more than 64 parts.
+// Whether any access has too many parts.
 fn accesses_have_many(accesses: &[(AccessKind, Relation)]) -> bool
     ensures { result ≡ accesses_many accesses.now }
 {
     for access in accesses {
-        if 64 < access.1.len() {
+        if MAX_PARTS < access.1.len() {
             return true;
         }
     }
     false
 }
 
-// Whether any relation of a statement has more than 64 parts.
+// Whether any relation of a statement has too many parts.
 fn has_many(raw: &RawStatement) -> bool
     ensures { result ≡ has_many_parts raw.now }
 {
-    64 < raw.domain.len()
-        || 64 < raw.scattering.len()
+    MAX_PARTS < raw.domain.len()
+        || MAX_PARTS < raw.scattering.len()
         || accesses_have_many(raw.accesses.as_slice())
 }
 
@@ -86,25 +90,26 @@ fn has_many(raw: &RawStatement) -> bool
 fn passed_limit(k: u32, raw: &RawStatement) -> Option<Refusal>
     ensures { result ≡ statement_limit k raw.now }
 {
-    if passes(PartCount::OutputCount, 12, &raw.domain) {
+    if passes(PartCount::OutputCount, MAX_ITERATORS, &raw.domain) {
         return Some(Refusal::Limit(Which::Iterators, k));
     }
-    if passes(PartCount::OutputCount, 49, &raw.scattering) {
+    if passes(PartCount::OutputCount, 2 * MAX_LEVELS + 1, &raw.scattering) {
         return Some(Refusal::Limit(Which::Levels, k));
     }
-    if statement_passes(PartCount::LocalCount, 24, raw) {
+    if statement_passes(PartCount::LocalCount, MAX_LOCALS, raw) {
         return Some(Refusal::Limit(Which::Locals, k));
     }
-    if statement_passes(PartCount::RowCount, 256, raw) {
+    if statement_passes(PartCount::RowCount, MAX_ROWS, raw) {
         return Some(Refusal::Limit(Which::Rows, k));
     }
     if has_many(raw) {
         return Some(Refusal::Limit(Which::Parts, k));
     }
-    if 256 < raw.accesses.len() {
+    if MAX_ACCESSES < raw.accesses.len() {
         return Some(Refusal::Limit(Which::Accesses, k));
     }
-    if accesses_pass(PartCount::OutputCount, 13, raw.accesses.as_slice()) {
+    let most = MAX_SUBSCRIPTS + 1;
+    if accesses_pass(PartCount::OutputCount, most, raw.accesses.as_slice()) {
         return Some(Refusal::Limit(Which::Subscripts, k));
     }
     None
@@ -112,7 +117,7 @@ fn passed_limit(k: u32, raw: &RawStatement) -> Option<Refusal>
 
 /// The first limit of the first statement that passes one.
 pub fn statements_limit(raws: &[RawStatement]) -> Option<Refusal>
-    requires { length raws.now ≤ 1024 }
+    requires { length raws.now ≤ max_statements }
     ensures { result ≡ first_limit 1 raws.now }
 {
     for k in 0..raws.len() {
@@ -137,18 +142,18 @@ fn count_arrays(arrays: &Option<List<(Coeff, Text)>>) -> usize
 /// The first limit that the whole passes.
 pub fn pieces_limit(pieces: &ScopPieces) -> Option<Refusal>
     ensures answer { result ≡ whole_limit pieces.now }
-    ensures none { result ≡ None → length pieces.now.statements ≤ 1024 }
+    ensures none { result ≡ None → length pieces.now.statements ≤ max_statements }
 {
-    if 1024 < pieces.statements.len() {
+    if MAX_STATEMENTS < pieces.statements.len() {
         return Some(Refusal::Limit(Which::Statements, 0));
     }
-    if 16 < pieces.context.shape().parameters {
+    if MAX_PARAMETERS < pieces.context.shape().parameters {
         return Some(Refusal::Limit(Which::Parameters, 0));
     }
-    if 256 < pieces.context.row_count() {
+    if MAX_ROWS < pieces.context.row_count() {
         return Some(Refusal::Limit(Which::Rows, 0));
     }
-    if 4096 < count_arrays(&pieces.arrays) {
+    if MAX_ARRAYS < count_arrays(&pieces.arrays) {
         return Some(Refusal::Limit(Which::Arrays, 0));
     }
     None

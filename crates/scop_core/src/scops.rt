@@ -2,6 +2,7 @@
 
 ghost use Rattle.std.specs.Prelude.{◌≡◌, ◌<◌, length, ◌≤◌, slice_get, None, true, All, MatchOption, IsSomeAnd, OnSome, OnOk, IfOk, IfErr};
 ghost use Rattle.std.specs.Option.{option_copied};
+ghost use Rattle.suite_base.specs.Limits.{max_statements};
 ghost use Rattle.row_core.specs.Dense.{dense_of};
 ghost use Rattle.scop_core.specs.Assembly.{first_unsolved, solved_statements, early_refusal_of, refusal_of, scop_of, HasCause, HasShapes};
 ghost use Rattle.scop_core.specs.Printable.{IsPrintable, arrays_name, is_kept};
@@ -20,7 +21,7 @@ use scop_data::copies::{
     beta_vectors, copied_extensions, copied_names, copied_part, copied_statements, copied_text,
     extensions_with,
 };
-use scop_data::{Extension, ScopPieces, Statement};
+use scop_data::{Extension, RawStatement, ScopPieces, Statement};
 use std::alloc::Global;
 use std::marker::Model;
 use suite_base::{Fail, List, NoMemory, Refusal, Text};
@@ -51,7 +52,7 @@ impl Model for Scop {
 // The first limit that the pieces pass, or else the first statement that is not solved.
 fn early_refusal(alloc: Global, pieces: &ScopPieces) -> Result<Option<Refusal>, NoMemory>
     ensures answer { IfOk result (λ refusal. refusal ≡ early_refusal_of pieces.now) }
-    ensures few { IfOk result (λ refusal. refusal ≡ None → length pieces.now.statements ≤ 1024) }
+    ensures few { IfOk result (λ refusal. refusal ≡ None → length pieces.now.statements ≤ max_statements) }
 {
     let raws = pieces.statements.as_slice();
     let limit = pieces_limit(pieces);
@@ -65,15 +66,19 @@ fn early_refusal(alloc: Global, pieces: &ScopPieces) -> Result<Option<Refusal>, 
     unsolved_statement(alloc, raws)
 }
 
-// The statements of the pieces, in solved form.
-fn solved(alloc: Global, pieces: &ScopPieces) -> Result<List<Statement>, NoMemory>
-    requires shapes { All (HasShapes pieces.now.context.shape.parameters) pieces.now.statements }
-    requires solved { first_unsolved 1 pieces.now.statements ≡ None }
-    ensures statements { IfOk result (λ made. made ≡ solved_statements 1 pieces.now.statements) }
-    ensures count { IfOk result (λ made. length made ≡ length pieces.now.statements) }
-    ensures printable { IfOk result (All (HasRelations pieces.now.context.shape.parameters)) }
+// These statements in solved form, over the parameters of the context.
+fn solved(
+    alloc: Global,
+    context: &Part,
+    raws: List<RawStatement>,
+) -> Result<List<Statement>, NoMemory>
+    requires shapes { All (HasShapes context.now.shape.parameters) raws }
+    requires solved { first_unsolved 1 raws ≡ None }
+    ensures statements { IfOk result (λ made. made ≡ solved_statements 1 raws) }
+    ensures count { IfOk result (λ made. length made ≡ length raws) }
+    ensures printable { IfOk result (All (HasRelations context.now.shape.parameters)) }
 {
-    let made = statements_from(alloc, pieces.statements.as_slice())?;
+    let made = statements_from(alloc, raws)?;
     Ok(made)
 }
 
@@ -94,19 +99,27 @@ impl Scop {
             Ok(Some(refusal)) => return Err(Fail::Refused(refusal)),
             Ok(None) => {}
         }
-        match solved(alloc, &pieces) {
+        let ScopPieces {
+            language,
+            context,
+            parameters,
+            statements,
+            arrays,
+            extensions,
+        } = pieces;
+        match solved(alloc, &context, statements) {
             Err(NoMemory) => Err(Fail::Memory),
             Ok(statements) => match statements_clash(statements.as_slice()) {
                 Some(refusal) => Err(Fail::Refused(refusal)),
-                None => match table_of(alloc, &pieces.arrays) {
+                None => match table_of(alloc, &arrays) {
                     Err(NoMemory) => Err(Fail::Memory),
                     Ok(arrays) => Ok(Scop {
-                        language: pieces.language,
-                        context: pieces.context,
-                        parameters: pieces.parameters,
+                        language,
+                        context,
+                        parameters,
                         statements,
                         arrays,
-                        extensions: pieces.extensions,
+                        extensions,
                     }),
                 },
             },

@@ -10,9 +10,10 @@ use Rattle.suite_base.specs.declared.refusals.Refusal.TheVariants.{BadScop}
 use Rattle.suite_base.specs.Lines.{trim}
 use Rattle.suite_base.specs.Words.{content}
 use Rattle.suite_base.proofs.LineCuts.{bool_tells}
+use Rattle.suite_base.specs.Bytes.{begins_name}
 use Rattle.scop_data.specs.declared.statements.Body.{Body}
 use Rattle.scop_data.specs.declared.statements.Extension.{Extension}
-use Rattle.scop_core.specs.Printable.{has_no, end_line, body_name, arrays_name, is_extension_name, is_letter, are_letters_or_digits, are_kept_lines, is_kept}
+use Rattle.scop_core.specs.Printable.{has_no, end_line, body_name, arrays_name, is_extension_name, are_name_bytes, are_kept_lines, is_kept}
 use Rattle.scop_reader.specs.Lines.{Rest}
 use Rattle.scop_reader.specs.Reading.{Outcome, Reader, and_then, said_line, next_said, literal}
 use Rattle.scop_reader.specs.Rules
@@ -343,7 +344,7 @@ not_close (b ∷ name) h =
       | inl e ↦
           let same : open_line (b ∷ name) ≡ close_word = (bytes_eq-Decides (open_line (b ∷ name)) close_word).0 e in
           let slash : b ≡ 47 = second_is b (name ++ 62 ∷ []) same in
-          absurd (let no : false ≡ true = ap is_letter (sym slash) ∙ (and_parts (is_letter b) (are_letters_or_digits name) h).0 in cc)
+          absurd (let no : false ≡ true = ap begins_name (sym slash) ∙ (and_parts (begins_name b) (are_name_bytes name) h).0 in cc)
       | inr other ↦ other
     ]
   where

@@ -14,7 +14,8 @@ use Rattle.suite_base.specs.Numbers.{number_read, is_digit, all_digits, are_digi
 use Rattle.suite_base.proofs.LineCuts.{bool_tells}
 use Rattle.suite_base.proofs.WordCuts.{words-spaced}
 use Rattle.suite_base.proofs.NumberLaws.{signed_decimal_word, signed_decimal_reads, number_is_word}
-use Rattle.scop_core.specs.Printable.{has_no, is_plain, is_name, are_names, is_letter, are_letters_or_digits, is_extension_name, end_line}
+use Rattle.suite_base.specs.Bytes.{begins_name, is_name_byte}
+use Rattle.scop_core.specs.Printable.{has_no, is_plain, is_name, are_names, are_name_bytes, is_extension_name, end_line}
 use Rattle.scop_reader.specs.Lines.{Rest, is_empty, is_silent, words_of, word_bytes}
 use Rattle.scop_reader.specs.Documents.{Said, Literal, Words, Numbers, Entry, Closing, Raw, End, says, is_raw, are_same, are_numbers, is_value, is_entry, behind, behind_all, open_line}
 use Rattle.scop_reader.proofs.GrammarLines.{false_of, other_way, join_one}
@@ -269,7 +270,7 @@ entry_good n word h k =
 
 -- ---- the lines that open and end an extension
 
-letter_high : (c : ℕ) → (is_letter c || is_digit c) ≡ true → 45 ≤ c
+letter_high : (c : ℕ) → is_name_byte c ≡ true → 45 ≤ c
 letter_high c e =
     elim (leb_tells 45 c) [
       | inl high ↦ high.1
@@ -282,17 +283,17 @@ letter_high c e =
           absurd (let no : false ≡ true = rw (a, b, d, f) at e in cc)
     ]
 
-letters_plain : (name : List ℕ) → are_letters_or_digits name ≡ true → is_plain name ≡ true
+letters_plain : (name : List ℕ) → are_name_bytes name ≡ true → is_plain name ≡ true
 letters_plain [] h = refl
 letters_plain (b ∷ name) h =
-    let both = and_parts (is_letter b || is_digit b) (are_letters_or_digits name) h in
+    let both = and_parts (is_name_byte b) (are_name_bytes name) h in
     plain_more b name (high_plain b (letter_high b both.0)) (letters_plain name both.1)
 
 name_plain : (name : List ℕ) → is_extension_name name ≡ true → is_plain name ≡ true
 name_plain [] h = absurd (cc)
 name_plain (b ∷ name) h =
-    let both = and_parts (is_letter b) (are_letters_or_digits name) h in
-    letters_plain (b ∷ name) (and_from (is_letter b || is_digit b) (are_letters_or_digits name) (or_left (is_letter b) (is_digit b) both.0) both.1)
+    let both = and_parts (begins_name b) (are_name_bytes name) h in
+    letters_plain (b ∷ name) (and_from (is_name_byte b) (are_name_bytes name) (or_left (begins_name b) (is_digit b) both.0) both.1)
 
 last_ends : (text : List ℕ) (b : ℕ) → is_blank b ≡ false → begins_word (reverse (text ++ b ∷ [])) ≡ true
 last_ends text b h = ap begins_word (reverse-append text (b ∷ [])) ∙ ap not h

@@ -1,5 +1,6 @@
 -- Words of the contracts on headers.
 use Rattle.std.specs.Prelude.{◌≡◌, ℕ, pos, ◌+◌, ◌≤◌, ◌==◌, true, List, Result, Ok, Err}
+use Rattle.suite_base.specs.Limits.{max_rows}
 use Rattle.suite_base.specs.declared.refusals.Fail.{Fail}
 use Rattle.suite_base.specs.declared.refusals.Fail.TheVariants as fail
 use Rattle.relation_core.specs.Systems.{HasLimits, columns}
@@ -17,7 +18,7 @@ TakesCount line old (Err (fail.Refused refusal)) new = numbers_in line is_count 
 
 -- each number of a header is small, and its columns are those of its shape
 pub record IsSmall (header : Header) : Type 0 where
-  pub rows : header.rows ≤ 256
+  pub rows : header.rows ≤ max_rows
   pub limits : HasLimits header.shape
   pub columns_are : (header.columns == columns header.shape + 2) ≡ true
 

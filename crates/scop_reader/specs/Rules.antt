@@ -1,12 +1,13 @@
 -- The rules of OpenScop text: one for each piece of the grammar. In one line the order is: the form and the
 -- number of words; the words from left to right; the shape; the limits.
-use Rattle.std.specs.Prelude.{ℤ, pos, ℕ, zero, suc, ◌+◌, ◌-◌, Bool, true, false, not, ◌&&◌, ◌||◌, ◌==◌, nat_lt, unsigned_abs, if◌then◌else◌, List, [], ◌∷◌, ◌++◌, length, Option, Some, None, Result, Ok, Err, codes, drop, take}
+use Rattle.std.specs.Prelude.{ℤ, pos, ℕ, zero, suc, ◌+◌, ◌-◌, ◌*◌, Bool, true, false, not, ◌&&◌, ◌||◌, ◌==◌, nat_lt, unsigned_abs, if◌then◌else◌, List, [], ◌∷◌, ◌++◌, length, Option, Some, None, Result, Ok, Err, codes, drop, take}
 use Rattle.std.specs.Ordering.{int_eq}
 use Rattle.std.specs.Str.{bytes_eq}
 use Rattle.suite_base.specs.declared.refusals.Refusal.{Refusal}
 use Rattle.suite_base.specs.declared.refusals.Refusal.TheVariants.{BadScop, SecondScop, Limit}
 use Rattle.suite_base.specs.declared.refusals.Which.{Which}
 use Rattle.suite_base.specs.declared.refusals.Which.TheVariants.{Statements, Iterators, Parameters, Levels, Locals, Rows, Parts, Accesses, Subscripts, Arrays}
+use Rattle.suite_base.specs.Limits.{max_statements, max_iterators, max_parameters, max_levels, max_locals, max_rows, max_parts, max_accesses, max_subscripts, max_arrays}
 use Rattle.suite_base.specs.Lines.{lines, trim}
 use Rattle.suite_base.specs.Words.{content}
 use Rattle.suite_base.specs.Numbers.{number_read}
@@ -90,9 +91,9 @@ suits (Access parameters iterators) shape = (shape.parameters == parameters) && 
 -- the most outputs of a part of this role, and what they are
 abbrev pub most_outputs : Role → ℕ
 most_outputs Context = 0
-most_outputs (Domain parameters iterators) = 12
-most_outputs (Scattering parameters iterators) = 49
-most_outputs (Access parameters iterators) = 13
+most_outputs (Domain parameters iterators) = max_iterators
+most_outputs (Scattering parameters iterators) = 2 * max_levels + 1
+most_outputs (Access parameters iterators) = max_subscripts + 1
 
 abbrev pub outputs_are : Role → Which
 outputs_are Context = Iterators
@@ -103,10 +104,10 @@ outputs_are (Access parameters iterators) = Subscripts
 -- the first limit that a header passes, of statement k or 0
 abbrev pub header_limit : Role → ℕ → Header → Option Refusal
 header_limit role k header =
-    if nat_lt 256 header.rows then Some (Limit Rows k)
+    if nat_lt max_rows header.rows then Some (Limit Rows k)
     else (if nat_lt (most_outputs role) header.shape.outputs then Some (Limit (outputs_are role) k)
-    else (if nat_lt 24 header.shape.locals then Some (Limit Locals k)
-    else (if nat_lt 16 header.shape.parameters then Some (Limit Parameters k) else None)))
+    else (if nat_lt max_locals header.shape.locals then Some (Limit Locals k)
+    else (if nat_lt max_parameters header.shape.parameters then Some (Limit Parameters k) else None)))
 
 -- columns with the kind and the constant, and the shape of a part of this role
 abbrev pub is_shaped : Role → Header → Bool
@@ -184,7 +185,7 @@ is_counted line = length (words_of line) == 1
 unfoldable pub part_count : ℕ → Reader ℕ
 part_count k = do
   found ← count_line 1
-  within 64 found.1 Parts k
+  within max_parts found.1 Parts k
   pure found.1
 
 unfoldable pub counted : ℕ → Reader ℕ
@@ -346,11 +347,11 @@ no_extensions = record { special = None; others = [] }
 
 -- ---- statements
 
--- the number of relations of statement k: domain, scattering and at most 256 accesses
+-- the number of relations of statement k: domain, scattering and the accesses
 unfoldable pub relation_count : ℕ → Reader ℕ
 relation_count k = do
   found ← count_line 2
-  within 258 found.1 Accesses k
+  within (max_accesses + 2) found.1 Accesses k
   pure found.1
 
 abbrev pub outputs_of_first : List System → ℕ
@@ -378,7 +379,7 @@ statements_from parameters k (suc n) found = do
 unfoldable pub statement_count : Reader ℕ
 statement_count = do
   found ← count_line 0
-  within 1024 found.1 Statements 0
+  within max_statements found.1 Statements 0
   pure found.1
 
 -- ---- the whole
@@ -420,7 +421,7 @@ arrays_from (suc n) found = do
 unfoldable pub arrays : Reader (List (ℤ × List ℕ))
 arrays = do
   count ← count_line 0
-  within 4096 count.1 Arrays 0
+  within max_arrays count.1 Arrays 0
   found ← arrays_from count.1 []
   closing (end_line arrays_name)
   pure found

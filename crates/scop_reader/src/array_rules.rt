@@ -16,7 +16,7 @@ use crate::text_lines::TextLine;
 use row_core::Coeff;
 use scop_core::Extension;
 use std::alloc::Global;
-use suite_base::{Fail, List, Refusal, Text, Which};
+use suite_base::{Fail, List, MAX_ARRAYS, Refusal, Text, Which};
 
 // The array of a line: an identifier of at least 1, and a name.
 fn array_of(alloc: Global, line: &TextLine<'_>) -> Result<(Coeff, Text), Fail>
@@ -88,7 +88,7 @@ fn arrays(alloc: Global, cursor: &mut Cursor<'_>) -> Result<List<(Coeff, Text)>,
     ensures { Reads (spec.arrays cursor.old) result cursor.new }
 {
     let (_line, count) = count_line(cursor, 0)?;
-    if count > 4096 {
+    if count > MAX_ARRAYS as u128 {
         return Err(Fail::Refused(Refusal::Limit(Which::Arrays, 0)));
     }
     let found = array_lines(alloc, cursor, count as usize)?;

@@ -2,25 +2,18 @@
 
 ghost use Rattle.std.specs.Prelude.{◌≡◌, [], ◌∷◌, ◌++◌};
 ghost use Rattle.std.specs.Str.{bytes_eq};
-ghost use Rattle.scop_core.specs.Printable.{is_letter, are_letters_or_digits, is_extension_name};
+ghost use Rattle.scop_core.specs.Printable.{are_name_bytes as has_name_bytes, is_extension_name};
 ghost use Rattle.scop_reader.specs.Rules as spec;
 
-use suite_base::is_digit_byte;
-
-// Whether `byte` is a letter or `_`.
-fn is_letter_byte(byte: u8) -> bool
-    ensures { result ≡ is_letter byte }
-{
-    (b'A' <= byte && byte <= b'Z') || (b'a' <= byte && byte <= b'z') || byte == b'_'
-}
+use suite_base::{begins_name_byte, is_name_byte};
 
 // Whether all bytes are letters, digits and `_`.
 fn are_name_bytes(bytes: &[u8]) -> bool
-    ensures { result ≡ are_letters_or_digits bytes.now }
+    ensures { result ≡ has_name_bytes bytes.now }
 {
     let mut rest = bytes;
     while let [first, after @ ..] = rest {
-        if !is_letter_byte(*first) && !is_digit_byte(*first) {
+        if !is_name_byte(*first) {
             return false;
         }
         rest = after;
@@ -34,7 +27,7 @@ fn is_name(name: &[u8]) -> bool
 {
     match name {
         [] => false,
-        [first, after @ ..] => is_letter_byte(*first) && are_name_bytes(after),
+        [first, after @ ..] => begins_name_byte(*first) && are_name_bytes(after),
     }
 }
 

@@ -14,7 +14,10 @@ use crate::roles::Role;
 use crate::text_lines::TextLine;
 use relation_core::Shape;
 use std::marker::Model;
-use suite_base::{Fail, Refusal, Which};
+use suite_base::{
+    Fail, MAX_ITERATORS, MAX_LEVELS, MAX_LOCALS, MAX_PARAMETERS, MAX_ROWS, MAX_SUBSCRIPTS, Refusal,
+    Which,
+};
 
 /// The six numbers as they stand. Contracts see them as a header.
 #[derive(Drop)]
@@ -182,9 +185,9 @@ fn most_outputs(role: Role) -> u128
 {
     match role {
         Role::Context => 0,
-        Role::Domain { .. } => 12,
-        Role::Scattering { .. } => 49,
-        Role::Access { .. } => 13,
+        Role::Domain { .. } => MAX_ITERATORS as u128,
+        Role::Scattering { .. } => 2 * MAX_LEVELS as u128 + 1,
+        Role::Access { .. } => MAX_SUBSCRIPTS as u128 + 1,
     }
 }
 
@@ -203,16 +206,16 @@ fn outputs_are(role: Role) -> Which
 fn header_limit(role: Role, k: u32, counts: &Counts) -> Option<Refusal>
     ensures { result ≡ spec.header_limit role k counts.now }
 {
-    if counts.rows > 256 {
+    if counts.rows > MAX_ROWS as u128 {
         return Some(Refusal::Limit(Which::Rows, k));
     }
     if counts.outputs > most_outputs(role) {
         return Some(Refusal::Limit(outputs_are(role), k));
     }
-    if counts.locals > 24 {
+    if counts.locals > MAX_LOCALS as u128 {
         return Some(Refusal::Limit(Which::Locals, k));
     }
-    if counts.parameters > 16 {
+    if counts.parameters > MAX_PARAMETERS as u128 {
         return Some(Refusal::Limit(Which::Parameters, k));
     }
     None

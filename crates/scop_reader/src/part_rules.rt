@@ -95,6 +95,10 @@ fn rows_of(
     Ok(())
 }
 
+/// The most items that a list begins with room for where a text says how many follow: no more than a first item would
+/// reserve, since the text may lie.
+pub const FIRST_ROOM: usize = 4;
+
 /// Takes a part of this role, of statement `k` or of the context where `k` is 0. What `entries` has is
 /// not kept.
 #[tactic(auto, unfolding(crate::specs::Rules::part))]
@@ -109,7 +113,8 @@ pub fn part(
     ensures { Reads (spec.part role k cursor.old) result cursor.new }
 {
     let header = header_line(cursor, role, k)?;
-    let mut part = Part::new(alloc, header.shape());
+    let room = header.rows().min(FIRST_ROOM);
+    let mut part = Part::with_capacity(alloc, header.shape(), room)?;
     rows_of(cursor, header.columns(), header.rows(), entries, &mut part)?;
     Ok(part)
 }

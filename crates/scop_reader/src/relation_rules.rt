@@ -7,21 +7,21 @@ ghost use Rattle.scop_reader.specs.Headers.{IsSmallRole};
 
 use crate::cursors::{Cursor, bad_line};
 use crate::line_rules::{count_line, literal};
-use crate::part_rules::part;
+use crate::part_rules::{FIRST_ROOM, part};
 use crate::roles::Role;
 use relation_core::{Part, Relation};
 use row_core::Coeff;
 use scop_core::AccessKind;
 use std::alloc::Global;
-use suite_base::{Fail, List, Refusal, Which};
+use suite_base::{Fail, List, MAX_PARTS, Refusal, Which};
 
-// Takes the line with the number of parts of a relation of statement `k`, which is at most 64.
+// Takes the line with the number of parts of a relation of statement `k`, which is within its limit.
 #[tactic(auto, unfolding(crate::specs::Rules::part_count))]
 fn part_count(cursor: &mut Cursor<'_>, k: u32) -> Result<usize, Fail>
     ensures { Reads (spec.part_count k cursor.old) result cursor.new }
 {
     let (_line, count) = count_line(cursor, 1)?;
-    if count > 64 {
+    if count > MAX_PARTS as u128 {
         return Err(Fail::Refused(Refusal::Limit(Which::Parts, k)));
     }
     Ok(count as usize)
@@ -79,7 +79,7 @@ fn parts_of(
     requires { IsSmallRole role }
     ensures { Reads (spec.parts_from role k count [] cursor.old) result cursor.new }
 {
-    let mut relation = Relation::new(alloc);
+    let mut relation = Relation::with_capacity(alloc, count.min(FIRST_ROOM))?;
     let mut role_here = role;
     for _turn in 0..count {
         let next = part(alloc, cursor, role_here, k, entries)?;

@@ -1,6 +1,7 @@
 //! Statements: their relations, their extensions.
 
 ghost use Rattle.std.specs.Prelude.{◌≤◌, [], IfOk};
+ghost use Rattle.suite_base.specs.Limits.{max_statements};
 ghost use Rattle.scop_core.specs.Printable.{body_name};
 ghost use Rattle.scop_reader.specs.Reading.{Reads, ReadsTo};
 ghost use Rattle.scop_reader.specs.Rules as spec;
@@ -14,7 +15,7 @@ use crate::relation_rules::{accesses, domain, outputs_of_first, scattering};
 use row_core::Coeff;
 use scop_core::{Body, Extension, RawStatement};
 use std::alloc::Global;
-use suite_base::{Fail, List, Refusal, Which};
+use suite_base::{Fail, List, MAX_ACCESSES, MAX_STATEMENTS, Refusal, Which};
 
 // Takes an extension of a statement of so many iterators: its body, at most once, or one that is kept.
 #[tactic(auto, unfolding(crate::specs::Rules::extension))]
@@ -71,7 +72,7 @@ fn relation_count(cursor: &mut Cursor<'_>, k: u32) -> Result<usize, Fail>
     ensures { Reads (spec.relation_count k cursor.old) result cursor.new }
 {
     let (_line, count) = count_line(cursor, 2)?;
-    if count > 258 {
+    if count > MAX_ACCESSES as u128 + 2 {
         return Err(Fail::Refused(Refusal::Limit(Which::Accesses, k)));
     }
     Ok(count as usize)
@@ -115,7 +116,7 @@ pub fn statements(
     count: usize,
     entries: &mut Vec<Coeff>,
 ) -> Result<List<RawStatement>, Fail>
-    requires { count ≤ 1024 }
+    requires { count ≤ max_statements }
     ensures { Reads (spec.statements_from parameters 1 count [] cursor.old) result cursor.new }
 {
     let mut made = List::new(alloc);
@@ -130,10 +131,10 @@ pub fn statements(
 #[tactic(auto, unfolding(crate::specs::Rules::statement_count))]
 pub fn statement_count(cursor: &mut Cursor<'_>) -> Result<usize, Fail>
     ensures reads { Reads (spec.statement_count cursor.old) result cursor.new }
-    ensures limit { IfOk result (λ count. count ≤ 1024) }
+    ensures limit { IfOk result (λ count. count ≤ max_statements) }
 {
     let (_line, count) = count_line(cursor, 0)?;
-    if count > 1024 {
+    if count > MAX_STATEMENTS as u128 {
         return Err(Fail::Refused(Refusal::Limit(Which::Statements, 0)));
     }
     Ok(count as usize)

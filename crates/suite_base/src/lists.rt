@@ -35,6 +35,15 @@ impl<T> List<T> {
         }
     }
 
+    /// The empty list, with room for `capacity` items.
+    pub fn with_capacity(alloc: Global, capacity: usize) -> Result<List<T>, NoMemory>
+        ensures { IfOk result (λ list. list ≡ []) }
+    {
+        Ok(List {
+            items: Vec::with_capacity(alloc, capacity)?,
+        })
+    }
+
     /// The allocator that the list keeps.
     pub fn allocator(&self) -> Global {
         *self.items.allocator()

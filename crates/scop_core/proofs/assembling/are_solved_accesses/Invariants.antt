@@ -1,4 +1,4 @@
-use Rattle.std.proofs.Common.{◌≡◌, ◌+◌, drop}
+use Rattle.std.proofs.Common.{◌≡◌, drop}
 use Rattle.scop_core.specs.Assembly.{are_solved}
 use Rattle.scop_core.proofs.assembling.are_solved_accesses.Given as goal
 

@@ -11,6 +11,6 @@ accesses_from-requires c = rw c.as_slice.ensures (both _ _ c.requires.solved).1
 
 pub returns-clause-printable : goal.returns-clause-printable
 returns-clause-printable c = λ p shapes.
-    let f = statement_fits p _ c.args.raw.now c.in_ok-schedule.schedule c.in_ok-accesses.accesses c.requires.solved c.in_ok-schedule.ensures.printable
-    (λ d q h. c.in_ok-accesses.ensures.printable d q (rw c.as_slice.ensures h)) (c.in_ok-body.ensures.count ∙ c.iterator_count.ensures.answer) shapes in
+    let f = statement_fits p _ c.args.raw c.in_ok-schedule.schedule c.in_ok-accesses.accesses c.requires.solved c.in_ok-schedule.ensures.printable
+    (λ d q h. c.in_ok-accesses.ensures.printable d q (rw c.as_slice.ensures h)) (c.in_ok-body.ensures.count ∙ c.iterator_count-iterators.ensures.answer) shapes in
     record { schedule = f.0; accesses = f.1 }

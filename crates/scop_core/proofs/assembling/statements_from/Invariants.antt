@@ -1,4 +1,4 @@
-use Rattle.std.proofs.Common.{◌≡◌, ℕ, ◌+◌, ◌++◌, None, drop}
+use Rattle.std.proofs.Common.{◌≡◌, ℕ, ◌+◌, ◌++◌, None, drop, length}
 use Rattle.std.specs.Prelude.{All}
 use Rattle.scop_core.specs.Assembly.{first_unsolved, solved_statements, HasShapes}
 use Rattle.scop_data.specs.SolvedData.{HasRelations}
@@ -6,7 +6,9 @@ use Rattle.scop_core.proofs.assembling.statements_from.Given as goal
 
 abbrev pub invariant-loop-k : goal.invariant-loop-k
 invariant-loop-k l = record {
-  all : l.made ++ solved_statements (l.k + 1) (drop l.k l.raws) ≡ solved_statements 1 l.raws;
-  left : first_unsolved (l.k + 1) (drop l.k l.raws) ≡ None;
-  printable : (p : ℕ) → All (HasShapes p) l.raws → All (HasRelations p) l.made;
+  rest : drop l.k l.raws ≡ drop l.k l.fn.raws;
+  count : length l.raws ≡ length l.fn.raws;
+  all : l.made ++ solved_statements (l.k + 1) (drop l.k l.fn.raws) ≡ solved_statements 1 l.fn.raws;
+  left : first_unsolved (l.k + 1) (drop l.k l.fn.raws) ≡ None;
+  printable : (p : ℕ) → All (HasShapes p) l.fn.raws → All (HasRelations p) l.made;
 }

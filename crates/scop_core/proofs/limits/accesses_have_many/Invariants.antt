@@ -1,4 +1,4 @@
-use Rattle.std.proofs.Common.{◌≡◌, ◌+◌, drop}
+use Rattle.std.proofs.Common.{◌≡◌, drop}
 use Rattle.scop_core.specs.Assembly.{accesses_many}
 use Rattle.scop_core.proofs.limits.accesses_have_many.Given as goal
 

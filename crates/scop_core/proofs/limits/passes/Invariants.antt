@@ -1,4 +1,4 @@
-use Rattle.std.proofs.Common.{◌≡◌, ◌+◌, drop}
+use Rattle.std.proofs.Common.{◌≡◌, drop}
 use Rattle.scop_core.specs.Assembly.{some_above}
 use Rattle.scop_core.proofs.limits.passes.Given as goal
 

@@ -1,4 +1,4 @@
-use Rattle.std.proofs.Common.{◌≡◌, ◌∙◌, ◌++◌, ◌∷◌, [], ap}
+use Rattle.std.proofs.Common.{◌∙◌, ◌++◌, ◌∷◌, [], ap}
 use Rattle.scop_data.specs.ScopData.{others}
 use Rattle.scop_core.proofs.Validities.{extended_valid}
 use Rattle.scop_core.proofs.scops.Scop.with_extension.Goals as goal
