@@ -3,3 +3,4 @@ pub mod Ring
 pub mod Rows
 pub mod Sparse
 pub mod DenseSteps
+mod Merging

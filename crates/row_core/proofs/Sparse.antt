@@ -1,23 +1,19 @@
 -- A row and its entries that are not 0 determine each other.
-use Rattle.std.specs.Prelude.{ℤ, pos, negsuc, ℕ, zero, suc, ◌+◌, ◌<◌, ◌≤◌, ◌^◌, ◌≡◌, refl, true, false, cond, ◌==◌, List, [], ◌∷◌, ◌++◌, length, drop, unsigned_abs}
-use Rattle.std.proofs.Common.{ap, sym, subst, ◌∙◌, arith}
+use Rattle.std.specs.Prelude.{ℤ, pos, negsuc, ℕ, zero, suc, ◌+◌, ◌<◌, ◌≤◌, ◌^◌, ◌≡◌, refl, true, false, cond, ◌==◌, List, [], ◌∷◌, ◌++◌, length, drop, replicate, unsigned_abs}
+use Rattle.std.proofs.Common.{ap, sym, subst, ◌∙◌, arith, append_assoc}
 use Rattle.std.proofs.Math.ListN.{length-append}
+use Rattle.std.proofs.lemmas.List.{append-nil}
 use Rattle.std.proofs.Math.Seq.{drop-cons}
 use Rattle.std.proofs.lemmas.Bool.Decides.{nat_tests}
 use Rattle.row_core.specs.declared.entries.Entry.{Entry}
 use Rattle.row_core.specs.Rows.{entry, AreCoefficients}
-use Rattle.row_core.specs.Sparse.{is_zero, nonzeros, spread, IsSparse, value_at, past, value_among}
+use Rattle.row_core.specs.Sparse.{is_zero, nonzeros, Begins, spread, IsSparse, value_at, past, value_among}
 use Rattle.row_core.proofs.Rows.{coefficients_more}
 
 pub zero_is : (c : ℤ) → is_zero c ≡ true → c ≡ pos 0
 zero_is (pos zero) e = refl
 zero_is (pos (suc n)) e = cc
 zero_is (negsuc n) e = cc
-
--- the first entry stands at k or after it
-abbrev pub Begins : ℕ → List Entry → Type 0
-Begins k [] = Unit {0}
-Begins k (e ∷ entries) = k ≤ e.place
 
 begins_later : (k : ℕ) (entries : List Entry) → Begins (suc k) entries → Begins k entries
 begins_later k [] h = tt
@@ -123,6 +119,29 @@ pub sparse_more : (n : ℕ) (entries : List Entry) (x : ℤ) → IsSparse n entr
 sparse_more n entries x s e r =
     sparse_is (n + 1) _ (spread 0 n entries ++ x ∷ []) (length_more n entries x) (more_entries n entries x s e)
     (coefficients_more (spread 0 n entries) x s.range r)
+
+-- more zeros keep the entries
+pub record MoreZeros (count n : ℕ) (entries : List Entry) : Type 0 where
+  pub sparse : IsSparse (n + count) entries
+  pub row : spread 0 (n + count) entries ≡ spread 0 n entries ++ replicate count (pos 0)
+
+pub more_zeros : (count n : ℕ) (entries : List Entry) → IsSparse n entries → MoreZeros count n entries
+more_zeros zero n entries s =
+    let e : n ≡ n + 0 = omega arith in
+    record {
+      sparse = subst (λ (m : ℕ). IsSparse m entries) e s;
+      row = ap (λ m. spread 0 m entries) (sym e) ∙ sym (append-nil (spread 0 n entries));
+    }
+more_zeros (suc count) n entries s =
+    let r = more_zeros count (n + 1) entries (sparse_zero n entries (pos 0) s refl) in
+    let e : n + 1 + count ≡ n + suc count = omega arith in
+    record {
+      sparse = subst (λ (m : ℕ). IsSparse m entries) e r.sparse;
+      row =
+          ap (λ m. spread 0 m entries) (sym e) ∙ r.row
+          ∙ ap (λ t. t ++ replicate count (pos 0)) (spread_zero n entries (pos 0) s refl)
+          ∙ append_assoc (spread 0 n entries) (pos 0 ∷ []) (replicate count (pos 0));
+    }
 
 pub not_zero : (x : ℤ) → (x ≡ pos 0 → ⊥) → is_zero x ≡ false
 not_zero (pos zero) h = absurd (h refl)

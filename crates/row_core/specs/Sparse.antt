@@ -1,5 +1,5 @@
 -- Sparse rows: the entries that are not 0, with their places.
-use Rattle.std.specs.Prelude.{ℤ, pos, negsuc, ℕ, zero, suc, ◌≡◌, Bool, true, false, cond, ◌==◌, List, [], ◌∷◌}
+use Rattle.std.specs.Prelude.{ℤ, pos, negsuc, ℕ, zero, suc, ◌≡◌, ◌≤◌, Bool, true, false, cond, ◌==◌, List, [], ◌∷◌}
 use Rattle.row_core.specs.declared.entries.Entry.{Entry}
 use Rattle.row_core.specs.Rows.{AreCoefficients}
 
@@ -12,6 +12,11 @@ is_zero (negsuc n) = false
 abbrev pub nonzeros : ℕ → List ℤ → List Entry
 nonzeros k [] = []
 nonzeros k (c ∷ row) = cond (is_zero c) (nonzeros (suc k) row) (record { place = k; value = c } ∷ nonzeros (suc k) row)
+
+-- no entry stands before place k, if they are in rising order of their places
+abbrev pub Begins : ℕ → List Entry → Type 0
+Begins k [] = Unit {0}
+Begins k (e ∷ entries) = k ≤ e.place
 
 -- the row of n entries from place k on that has these entries, and 0 elsewhere
 abbrev pub spread : ℕ → ℕ → List Entry → List ℤ

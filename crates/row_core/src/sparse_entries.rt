@@ -1,7 +1,7 @@
 //! Entries of a sparse row, looked up by their place.
 
-ghost use Rattle.std.specs.Prelude.{◌≡◌, length};
-ghost use Rattle.row_core.specs.Sparse.{value_at, past, value_among as found};
+ghost use Rattle.std.specs.Prelude.{◌≡◌, ◌≤◌, length};
+ghost use Rattle.row_core.specs.Sparse.{value_at, past, value_among as found, Begins};
 
 use crate::coeffs::Coeff;
 use crate::entries::Entry;
@@ -24,6 +24,21 @@ pub fn take_at(rest: &mut Rest<'_>, place: usize) -> Coeff
             value
         }
         _ => Coeff::ZERO,
+    }
+}
+
+/// The place of the first entry, which is `start` or later; `end` where it is not before that, or there is
+/// none.
+pub fn first_place(rest: &Rest<'_>, start: usize, end: usize) -> usize
+    requires begins { Begins start rest.now.entries.now }
+    requires range { start ≤ end }
+    ensures begins { Begins result rest.now.entries.now }
+    ensures from { start ≤ result }
+    ensures to { result ≤ end }
+{
+    match rest.entries {
+        [first, ..] => first.place.min(end),
+        [] => end,
     }
 }
 

@@ -1,6 +1,6 @@
 //! A row of coefficients that keeps only the entries that are not 0.
 
-ghost use Rattle.std.specs.Prelude.{◌≡◌, ◌<◌, ◌≤◌, ◌+◌, ◌-◌, ◌^◌, [], ◌∷◌, ◌++◌, length, IfOk, OnOk, OnErr};
+ghost use Rattle.std.specs.Prelude.{◌≡◌, ◌<◌, ◌≤◌, ◌+◌, ◌-◌, ◌^◌, [], ◌∷◌, ◌++◌, pos, length, replicate, IfOk, OnOk, OnErr};
 ghost use Rattle.row_core.specs.Rows.{entry, AreCoefficients};
 ghost use Rattle.row_core.specs.Sparse.{nonzeros};
 
@@ -39,6 +39,14 @@ impl SparseRow {
             len: 0,
             entries: Vec::new(alloc),
         }
+    }
+
+    /// The empty row, with room for `count` entries that are not 0.
+    pub fn with_capacity(alloc: Global, count: usize) -> Result<SparseRow, NoMemory>
+        ensures { IfOk result (λ row. row ≡ []) }
+    {
+        let entries = Vec::with_capacity(alloc, count)?;
+        Ok(SparseRow { len: 0, entries })
     }
 
     /// The row of these coefficients.
@@ -92,6 +100,14 @@ impl SparseRow {
         })?;
         self.len += 1;
         Ok(())
+    }
+
+    /// Appends `count` zeros; the row stays no longer than the greatest `usize`.
+    pub fn push_zeros(&mut self, count: usize)
+        requires { length self.old + count < 2 ^ 64 }
+        ensures { self.new ≡ self.old ++ replicate count (pos 0) }
+    {
+        self.len += count;
     }
 
     /// A copy of the row.
