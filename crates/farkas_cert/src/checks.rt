@@ -10,6 +10,7 @@ ghost use Rattle.relation_core.specs.Points.{column, column_weight};
 ghost use Rattle.farkas_cert.specs.Certificates.{AllowedOne, Allowed, Cleared, Valid, ValidMeansEmpty, HasNoPoint, HasHeavyColumn, IsTooHeavy, IsLight};
 
 use crate::certificates::Certificate;
+use crate::products::with_product;
 use relation_core::{Part, RowKind};
 use row_core::{Coeff, Sum};
 
@@ -90,7 +91,7 @@ fn column_sum(system: &Part, multipliers: &[Coeff], k: usize) -> Option<Sum>
 {
     let mut sum = Sum::zero();
     for i in 0..multipliers.len() {
-        sum = sum.add(multipliers[i], system.entry(i, k))?;
+        sum = with_product(sum, multipliers[i], system.entry(i, k))?;
     }
     Some(sum)
 }

@@ -5,6 +5,7 @@
 mod certificates;
 mod checks;
 mod points;
+mod products;
 mod texts;
 
 pub use certificates::Certificate;

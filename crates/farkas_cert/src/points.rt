@@ -1,12 +1,13 @@
 //! The check of a rational point: every row is summed exactly there.
 
-ghost use Rattle.std.specs.Prelude.{◌≡◌, ◌<◌, ◌≤◌, ◌+◌, ◌-◌, ◌^◌, ◌↔◌, pos, ◌≤ℤ◌, ◌+ℤ◌, ◌*ℤ◌, length, unsigned_abs, IsTrue, IfOk, MatchOption, MatchResult};
+ghost use Rattle.std.specs.Prelude.{◌≡◌, ◌<◌, ◌≤◌, ◌+◌, ◌-◌, ◌^◌, ◌↔◌, pos, ◌≤ℤ◌, length, IsTrue, IfOk, MatchOption, MatchResult};
 ghost use Rattle.row_core.specs.Rows.{dot, entry};
 ghost use Rattle.relation_core.specs.Systems.{columns, width};
 ghost use Rattle.relation_core.specs.Points.{Meets, MeetsAll, HasPoint};
 ghost use Rattle.farkas_cert.specs.Points.{dot_weight, rows_weight, IsPoint};
 
 use crate::checks::TooHeavy;
+use crate::products::with_product;
 use relation_core::{Part, PartRow, RowKind};
 use row_core::{Coeff, Sum};
 
@@ -84,15 +85,4 @@ fn value_at(entries: &[Coeff], point: &[Coeff]) -> Option<Sum>
         sum = with_product(sum, entries[k], point[k])?;
     }
     Some(sum)
-}
-
-// The sum with a product added, as `Sum::add` has it; most entries of a row are 0.
-fn with_product(sum: Sum, c: Coeff, x: Coeff) -> Option<Sum>
-    ensures { MatchOption result (2 ^ 127 ≤ sum.weight + unsigned_abs (c *ℤ x))
-        (λ s. (s.value ≡ sum.value +ℤ (c *ℤ x)) × (s.weight ≡ sum.weight + unsigned_abs (c *ℤ x))) }
-{
-    if c.is_zero() {
-        return Some(sum);
-    }
-    sum.add(c, x)
 }
