@@ -1,6 +1,6 @@
 -- When the rows of a system are as wide as its columns.
 use Rattle.std.specs.Prelude.{◌≡◌, ℕ, ◌+◌, List, length, All}
-use Rattle.relation_core.specs.Systems.{System}
+use Rattle.relation_core.specs.Systems.{System, HasLimits}
 use Rattle.scop_data.specs.declared.affines.Affine.{Affine}
 use Rattle.scop_data.specs.declared.schedules.Schedule.{Schedule}
 use Rattle.dependence_systems.specs.declared.widths.Widths.{Widths}
@@ -9,7 +9,7 @@ use Rattle.scop_core.specs.Held.{IsFormed}
 use Rattle.scop_core.specs.Printable.{IsContext, IsDomainPart}
 use Rattle.scop_core.specs.ReadBack.{IsSolvedSchedule, IsSolvedAccess}
 use Rattle.dependence_systems.specs.Sides.{Side}
-use Rattle.dependence_systems.specs.Systems.{Pairing}
+use Rattle.dependence_systems.specs.Systems.{Pairing, system_shape}
 
 -- the domain, the accesses and the schedule of a side have its iterators and so many parameters
 pub record SideFits (parameters : ℕ) (side : Side) : Type 0 where
@@ -54,3 +54,8 @@ pub record PairingFits (m : Pairing) : Type 0 where
   pub target_subscripts : SubscriptsFit m.target_part.shape.outputs m.context.shape.parameters m.target_access.subscripts
   pub source_schedule : IsSolvedSchedule m.source_part.shape.outputs m.context.shape.parameters m.source_schedule
   pub target_schedule : IsSolvedSchedule m.target_part.shape.outputs m.context.shape.parameters m.target_schedule
+
+-- the rows of its systems can be built
+pub record IsBuildable (m : Pairing) : Type 0 where
+  pub limits : HasLimits (system_shape m)
+  pub fits : PairingFits m

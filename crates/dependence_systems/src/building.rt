@@ -6,7 +6,7 @@ ghost use Rattle.scop_core.specs.LevelOrder.{IsLevel};
 ghost use Rattle.scop_core.specs.SolvedRows.{floor_part};
 ghost use Rattle.dependence_systems.specs.Fits.{GroundsFit, PairingFits};
 ghost use Rattle.dependence_systems.specs.Comparisons.{HasColumns, SharedFit};
-ghost use Rattle.dependence_systems.specs.Systems.{widths_for, shape_with, placed_rows, shared_rows, pairing, level_system, system_shape, system_weight};
+ghost use Rattle.dependence_systems.specs.Systems.{widths_for, shape_with, placed_rows, shared_rows, pairing, base_of, base_weight, level_system, system_shape, system_weight};
 
 use crate::comparing::push_comparisons;
 use crate::level_rows::push_level;
@@ -113,6 +113,38 @@ fn shared_of(
     )
 }
 
+/// The rows that the systems of two accesses share at all levels: those of the two sides, in parts of the
+/// domains of their statements and under two schedules, and those of the subscripts. Overflow comes
+/// exactly where an entry of them has summands whose absolute values sum above 2^127 - 1.
+pub fn base_between(
+    alloc: Global,
+    context: &Part,
+    source_part: &Part,
+    target_part: &Part,
+    source_access: &Access,
+    target_access: &Access,
+    source: &Schedule,
+    target: &Schedule,
+) -> Result<Part, RowFail>
+    requires limits { HasLimits (system_shape (pairing context.now source_part.now target_part.now source_access.now target_access.now source.now target.now)) }
+    requires fits { PairingFits (pairing context.now source_part.now target_part.now source_access.now target_access.now source.now target.now) }
+    ensures part { IfOk result (λ part. part ≡ base_of (pairing context.now source_part.now target_part.now source_access.now target_access.now source.now target.now)) }
+    ensures light { OnOk result (base_weight (pairing context.now source_part.now target_part.now source_access.now target_access.now source.now target.now) < 2 ^ 127) }
+    ensures heavy { IfErr result (λ fail. fail ≡ RowFail.Overflow → 2 ^ 127 ≤ base_weight (pairing context.now source_part.now target_part.now source_access.now target_access.now source.now target.now)) }
+{
+    let w = widths_between(source_part, target_part, source, target);
+    match shared_of(alloc, context, source_part, target_part, source, target) {
+        Err(NoMemory) => Err(RowFail::Memory),
+        Ok(part) => {
+            let mut part = part;
+            let subscripts = source_access.subscripts.as_slice();
+            let others = target_access.subscripts.as_slice();
+            push_comparisons(&mut part, Comparison::Subscripts, &w, subscripts, others)?;
+            Ok(part)
+        }
+    }
+}
+
 /// The system of two accesses, in parts of the domains of their statements and under two schedules,
 /// at one of the levels between these. Overflow comes exactly where an entry of its rows has summands
 /// whose absolute values sum above 2^127 - 1.
@@ -135,15 +167,16 @@ pub fn system_between(
     ensures heavy { IfErr result (λ fail. fail ≡ RowFail.Overflow → 2 ^ 127 ≤ system_weight (pairing context.now source_part.now target_part.now source_access.now target_access.now source.now target.now) level) }
 {
     let w = widths_between(source_part, target_part, source, target);
-    match shared_of(alloc, context, source_part, target_part, source, target) {
-        Err(NoMemory) => Err(RowFail::Memory),
-        Ok(part) => {
-            let mut part = part;
-            let subscripts = source_access.subscripts.as_slice();
-            let others = target_access.subscripts.as_slice();
-            push_comparisons(&mut part, Comparison::Subscripts, &w, subscripts, others)?;
-            push_level(&mut part, &w, source, target, level)?;
-            Ok(part)
-        }
-    }
+    let mut part = base_between(
+        alloc,
+        context,
+        source_part,
+        target_part,
+        source_access,
+        target_access,
+        source,
+        target,
+    )?;
+    push_level(&mut part, &w, source, target, level)?;
+    Ok(part)
 }

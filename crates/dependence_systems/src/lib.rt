@@ -12,6 +12,7 @@ pub mod level_tests;
 mod listing;
 pub mod lookups;
 mod own;
+mod pairings;
 pub mod pieces;
 mod placing;
 pub mod spans;
@@ -20,5 +21,6 @@ pub mod widths;
 
 pub use dependences::{Dep, DepKind};
 pub use listing::deps;
-pub use own::{own_deps, own_pieces, own_system};
-pub use systems::system;
+pub use own::{own_deps, own_pairing, own_pieces, own_system};
+pub use pairings::Pairing;
+pub use systems::{pairing_for, system};

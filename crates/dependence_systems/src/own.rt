@@ -2,15 +2,17 @@
 
 ghost use Rattle.std.specs.Prelude.{◌≡◌, ◌<◌, ◌≤◌, ◌^◌, length, IfOk, IfErr, OnOk};
 ghost use Rattle.suite_base.specs.Limits.{max_statements, max_systems};
+ghost use Rattle.scop_core.specs.LevelOrder.{IsLevel};
 ghost use Rattle.scop_core.specs.Sequences.{In};
 ghost use Rattle.dependence_systems.specs.Sides.{own_sides};
 ghost use Rattle.dependence_systems.specs.Originals.{own_originals};
 ghost use Rattle.dependence_systems.specs.Entries.{entries, IsTooMany};
-ghost use Rattle.dependence_systems.specs.Systems.{system_of, summand_weight};
+ghost use Rattle.dependence_systems.specs.Systems.{pairing_of, system_of, summand_weight};
 
 use crate::dependences::Dep;
 use crate::listing::deps;
-use crate::systems::system;
+use crate::pairings::Pairing;
+use crate::systems::{pairing_for, system};
 use relation_core::Part;
 use row_core::RowFail;
 use scop_core::{Pieces, Scop};
@@ -45,6 +47,16 @@ fn statements_are_few(scop: &Scop)
     ensures { length scop.now.statements ≤ max_statements }
 {
     let _count = scop.statement_count();
+}
+
+/// What the systems of an entry of that list, and of those that differ from it in the level alone, are made of.
+pub fn own_pairing<'a>(scop: &'a Scop, pieces: &Pieces, entry: &Dep) -> Pairing<'a>
+    requires own { pieces.now ≡ own_originals scop.now }
+    requires listed { In entry.now (entries (own_sides scop.now)) }
+    ensures pairing { result ≡ pairing_of scop.now.context (own_sides scop.now) entry.now }
+    ensures level { IsLevel result.source_schedule.betas result.target_schedule.betas entry.now.level }
+{
+    pairing_for(scop, scop, pieces, entry)
 }
 
 /// The system of one entry of that list. Overflow comes as `system` has it.

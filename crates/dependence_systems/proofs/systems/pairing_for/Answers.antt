@@ -1,9 +1,9 @@
-use Rattle.std.proofs.Common.{◌≡◌, ◌≤◌, ◌<◌, ◌^◌, IfOk, OnOk, IfErr, ap, sym, ◌∙◌, subst}
-use Rattle.row_core.specs.declared.arithmetic.RowFail.TheVariants.{Overflow}
+use Rattle.std.proofs.Common.{◌≡◌, ap, sym, ◌∙◌, subst}
+use Rattle.scop_core.specs.LevelOrder.{IsLevel}
 use Rattle.dependence_systems.specs.Sides.{sides}
-use Rattle.dependence_systems.specs.Systems.{pairing, pairing_of, level_system, system_weight}
+use Rattle.dependence_systems.specs.Systems.{Pairing, pairing, pairing_of}
 use Rattle.dependence_systems.proofs.NamedSides.{has_source, has_target, statement_there, number_there, original_there, access_there, part_there, found_by, pairing_found, found_ready}
-use Rattle.dependence_systems.proofs.systems.system.Goals as goal
+use Rattle.dependence_systems.proofs.systems.pairing_for.Goals as goal
 
 pub numbered-source-requires : goal.numbered-source-requires
 numbered-source-requires c =
@@ -45,7 +45,7 @@ pub numbered-target_access-requires : goal.numbered-target_access-requires
 numbered-target_access-requires c =
     access_there c.args.old.now.statements c.args.now.now.statements c.args.pieces.now c.args.dep.now.target c.args.dep.now.target_access c.args.dep.now.target_part c.statements-2.result.now c.numbered-target.result.now c.as_slice-2.result.now (has_target c.args.old.now c.args.now.now c.args.pieces.now c.args.dep.now c.requires.originals c.requires.listed) c.statements-2.ensures.answer c.numbered-target.ensures c.as_slice-2.ensures
 
-found_before : (c : goal.After-row_known-1) → pairing_of c.args.now.now.context (sides c.args.old.now c.args.now.now c.args.pieces.now) c.args.dep.now
+found_before : (c : goal.After-context) → pairing_of c.args.now.now.context (sides c.args.old.now c.args.now.now c.args.pieces.now) c.args.dep.now
     ≡ pairing c.context.result.now c.numbered-source_part.result.now c.numbered-target_part.result.now c.numbered-source_access.result.now c.numbered-target_access.result.now c.numbered-source_old.result.now.schedule c.numbered-target_old.result.now.schedule
 found_before c =
     pairing_found c.args.old.now c.args.now.now c.args.pieces.now c.args.dep.now c.requires.originals
@@ -57,7 +57,7 @@ found_before c =
     c.statements-2.ensures.answer c.numbered-target.ensures c.original_of-2.ensures c.statements-4.ensures.answer c.numbered-target_old.ensures c.as_slice-2.ensures c.numbered-target_access.ensures c.parts-2.ensures c.numbered-target_part.ensures)
     ∙ ap (λ context. pairing context c.numbered-source_part.result.now c.numbered-target_part.result.now c.numbered-source_access.result.now c.numbered-target_access.result.now c.numbered-source_old.result.now.schedule c.numbered-target_old.result.now.schedule) (sym c.context.ensures)
 
-found_after : (c : goal.After-system_between) → pairing_of c.args.now.now.context (sides c.args.old.now c.args.now.now c.args.pieces.now) c.args.dep.now
+found_after : (c : goal.After-new) → pairing_of c.args.now.now.context (sides c.args.old.now c.args.now.now c.args.pieces.now) c.args.dep.now
     ≡ pairing c.context.result.now c.numbered-source_part.result.now c.numbered-target_part.result.now c.numbered-source_access.result.now c.numbered-target_access.result.now c.numbered-source_old.result.now.schedule c.numbered-target_old.result.now.schedule
 found_after c =
     pairing_found c.args.old.now c.args.now.now c.args.pieces.now c.args.dep.now c.requires.originals
@@ -69,26 +69,15 @@ found_after c =
     c.statements-2.ensures.answer c.numbered-target.ensures c.original_of-2.ensures c.statements-4.ensures.answer c.numbered-target_old.ensures c.as_slice-2.ensures c.numbered-target_access.ensures c.parts-2.ensures c.numbered-target_part.ensures)
     ∙ ap (λ context. pairing context c.numbered-source_part.result.now c.numbered-target_part.result.now c.numbered-source_access.result.now c.numbered-target_access.result.now c.numbered-source_old.result.now.schedule c.numbered-target_old.result.now.schedule) (sym c.context.ensures)
 
-pub system_between-requires-clause-limits : goal.system_between-requires-clause-limits
-system_between-requires-clause-limits c =
-    (found_ready c.args.old.now c.args.now.now c.args.pieces.now c.args.dep.now c.statements-3.ensures.valid c.statements.ensures.valid c.requires.originals c.requires.listed _ (found_before c)).limits
+pub new-requires : goal.new-requires
+new-requires c =
+    let ready = found_ready c.args.old.now c.args.now.now c.args.pieces.now c.args.dep.now c.statements-3.ensures.valid c.statements.ensures.valid c.requires.originals c.requires.listed _ (found_before c) in
+    record { limits = ready.limits; fits = ready.fits }
 
-pub system_between-requires-clause-fits : goal.system_between-requires-clause-fits
-system_between-requires-clause-fits c =
-    (found_ready c.args.old.now c.args.now.now c.args.pieces.now c.args.dep.now c.statements-3.ensures.valid c.statements.ensures.valid c.requires.originals c.requires.listed _ (found_before c)).fits
+pub returns-clause-pairing : goal.returns-clause-pairing
+returns-clause-pairing c = c.new.ensures ∙ sym (found_after c)
 
-pub system_between-requires-clause-level : goal.system_between-requires-clause-level
-system_between-requires-clause-level c =
-    (found_ready c.args.old.now c.args.now.now c.args.pieces.now c.args.dep.now c.statements-3.ensures.valid c.statements.ensures.valid c.requires.originals c.requires.listed _ (found_before c)).is_level
-
-pub returns-clause-part : goal.returns-clause-part
-returns-clause-part c =
-    subst (λ m. IfOk c.system_between.result (λ part. part ≡ level_system m c.args.dep.now.level)) (sym (found_after c)) c.system_between.ensures.part
-
-pub returns-clause-light : goal.returns-clause-light
-returns-clause-light c =
-    subst (λ m. OnOk c.system_between.result (system_weight m c.args.dep.now.level < 2 ^ 127)) (sym (found_after c)) c.system_between.ensures.light
-
-pub returns-clause-heavy : goal.returns-clause-heavy
-returns-clause-heavy c =
-    subst (λ m. IfErr c.system_between.result (λ fail. fail ≡ Overflow → 2 ^ 127 ≤ system_weight m c.args.dep.now.level)) (sym (found_after c)) c.system_between.ensures.heavy
+pub returns-clause-level : goal.returns-clause-level
+returns-clause-level c =
+    subst (λ (m : Pairing). IsLevel m.source_schedule.betas m.target_schedule.betas c.args.dep.now.level) (sym c.new.ensures)
+    (found_ready c.args.old.now c.args.now.now c.args.pieces.now c.args.dep.now c.statements-3.ensures.valid c.statements.ensures.valid c.requires.originals c.requires.listed _ (found_after c)).is_level
