@@ -5,7 +5,7 @@ use Rattle.std.specs.Prelude.{codes, Some, None}
 use Rattle.relation_core.specs.Systems.{System}
 use Rattle.dependence_systems.specs.declared.dependences.Dep.{Dep}
 use Rattle.dependence_systems.specs.declared.dependences.DepKind.TheVariants.{Waw}
-use Rattle.candl_deps.specs.declared.decisions.Decided.{Decided}
+use Rattle.candl_deps.specs.declared.held.Decided.{Decided}
 use Rattle.candl_deps.specs.declared.held.Dependences.{Dependences}
 use Rattle.candl_deps.specs.Found.{system_at, certificate_at, verdicts_of, found_block}
 

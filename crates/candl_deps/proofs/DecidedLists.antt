@@ -9,7 +9,7 @@ use Rattle.dependence_systems.specs.Entries.{entries}
 use Rattle.dependence_systems.specs.Systems.{system_of}
 use Rattle.dependence_blocks.specs.Blocks.{entry_lines, lines_of, block_lines, block_of}
 use Rattle.dependence_blocks.specs.KeptLines.{IsReadable}
-use Rattle.candl_deps.specs.declared.decisions.Decided.{Decided}
+use Rattle.candl_deps.specs.declared.held.Decided.{Decided}
 use Rattle.candl_deps.specs.declared.held.Dependences.{Dependences}
 use Rattle.candl_deps.specs.Decisions.{IsRight, AreRight, AreReadable, AreLight, lines_with}
 use Rattle.candl_deps.specs.Found.{IsFound, AreDecided, IsPushed, AreDependences, verdicts_of, found_lines, found_block, FoundBlocksAreBlocks}

@@ -1,6 +1,6 @@
-//! The decision of each system, and the block that it is printed to.
+//! The systems of a SCoP, each decided, printed and let go.
 
-ghost use Rattle.std.specs.Prelude.{◌≡◌, ◌<◌, ◌≤◌, ◌^◌, [], ◌∷◌, true, length, IfOk, IfErr, OnOk};
+ghost use Rattle.std.specs.Prelude.{◌≡◌, ◌<◌, ◌≤◌, ◌^◌, [], ◌∷◌, true, length, IfOk, IfErr, IfSome, OnOk};
 ghost use Rattle.suite_base.specs.Limits.{max_systems, max_stage_rows};
 ghost use Rattle.scop_core.specs.Sequences.{In};
 ghost use Rattle.scop_core.specs.Printable.{are_kept_lines, is_kept, arrays_name};
@@ -11,24 +11,16 @@ ghost use Rattle.dependence_systems.specs.Originals.{own_originals};
 ghost use Rattle.dependence_systems.specs.Entries.{entries};
 ghost use Rattle.dependence_systems.specs.Systems.{system_of, summand_weight};
 ghost use Rattle.dependence_blocks.specs.Blocks.{block_name};
+ghost use Rattle.candl_deps.specs.Bases.{IsBase};
 ghost use Rattle.candl_deps.specs.Decisions as spec;
 
+use crate::bases::{Base, decided_entry};
 use dependence_blocks::{block, print_count, print_entry};
-use dependence_systems::{Dep, own_deps, own_pieces, own_system};
-use elim_core::{ElimFail, Verdict, decide_by};
-use farkas_cert::Certificate;
-use relation_core::Part;
-use row_core::{RowFail, SparseRow};
+use dependence_systems::{Dep, own_deps, own_pieces};
+use elim_core::ElimFail;
 use scop_core::{Extension, Pieces, Scop};
 use std::alloc::Global;
 use suite_base::{Fail, List, Refusal, Text, Where};
-
-/// A system and its verdict: no certificate where it is kept, that is where it has a rational point.
-#[derive(Drop)]
-pub struct Decided {
-    pub system: Part,
-    pub certificate: Option<Certificate>,
-}
 
 /// The block of a SCoP's dependences, an extension that may take the place of an older one: the systems are
 /// decided in order, each is printed and let go.
@@ -100,73 +92,40 @@ fn print_decided(
     ensures cause { IfErr result (spec.IsCause scop.now) }
 {
     let items = list.as_slice();
+    let mut held = None;
     for k in 0..items.len() {
-        print_one(alloc, scop, pieces, &items[k], k as u32 + 1, lines)?;
+        let base = print_one(alloc, scop, pieces, &items[k], k as u32 + 1, held, lines)?;
+        held = Some(base);
     }
     Ok(())
 }
 
-// Decides an entry and appends its lines; `number` is that of its system.
+// Decides an entry and appends its lines; `number` is that of its system, and `held` the base of an entry
+// before it. It answers the entry's own base.
 fn print_one(
     alloc: Global,
     scop: &Scop,
     pieces: &Pieces,
     entry: &Dep,
     number: u32,
+    held: Option<Base>,
     lines: &mut List<Text>,
-) -> Result<(), Fail>
+) -> Result<Base, Fail>
     requires own { pieces.now ≡ own_originals scop.now }
     requires listed { In entry.now (entries (own_sides scop.now)) }
+    requires held { IfSome held (IsBase scop.now.context (own_sides scop.now)) }
     requires kept { are_kept_lines block_name lines.old ≡ true }
+    ensures base { IfOk result (IsBase scop.now.context (own_sides scop.now)) }
     ensures printed { OnOk result (spec.IsPrinted scop.now.context (own_sides scop.now) (entry.now ∷ []) lines.old lines.new) }
     ensures kept { OnOk result (are_kept_lines block_name lines.new ≡ true) }
     ensures cause { IfErr result (spec.StopsOne scop.now.context (own_sides scop.now) entry.now number) }
 {
-    match decided_entry(alloc, scop, pieces, entry) {
+    match decided_entry(alloc, scop, pieces, entry, held) {
         Err(fail) => Err(refused(fail, number)),
-        Ok(decided) => {
-            print_entry(alloc, lines, entry, &decided.system, &decided.certificate)?;
-            Ok(())
+        Ok(level) => {
+            print_entry(alloc, lines, entry, &level.base.part, &level.certificate)?;
+            Ok(level.base.cut_back())
         }
-    }
-}
-
-/// Builds and decides the system of an entry of a SCoP's own list.
-pub fn decided_entry(
-    alloc: Global,
-    scop: &Scop,
-    pieces: &Pieces,
-    entry: &Dep,
-) -> Result<Decided, ElimFail>
-    requires own { pieces.now ≡ own_originals scop.now }
-    requires listed { In entry.now (entries (own_sides scop.now)) }
-    ensures decided { IfOk result (λ found. spec.IsDecided scop.now.context (own_sides scop.now) entry.now found.system found.certificate) }
-    ensures cause { IfErr result (spec.FailsOne scop.now.context (own_sides scop.now) entry.now) }
-{
-    match own_system(alloc, scop, pieces, entry) {
-        Err(RowFail::Memory) => Err(ElimFail::Memory),
-        Err(RowFail::Overflow) => Err(ElimFail::Overflow),
-        Ok(system) => {
-            let certificate = verdict(alloc, &system)?;
-            Ok(Decided {
-                system,
-                certificate,
-            })
-        }
-    }
-}
-
-/// The verdict on a system: no certificate exactly where it has a rational point, else one that is valid and
-/// not too heavy to check. `Overflow` and `TooManyRows` come only by the peak of the system.
-pub fn verdict(alloc: Global, system: &Part) -> Result<Option<Certificate>, ElimFail>
-    ensures right { IfOk result (spec.IsRight system.now) }
-    ensures overflow { IfErr result (λ fail. fail ≡ ElimFail.Overflow → 2 ^ 127 ≤ (peak system.now).weight) }
-    ensures rows { IfErr result (λ fail. fail ≡ ElimFail.TooManyRows → max_stage_rows < (peak system.now).rows) }
-{
-    match decide_by::<SparseRow>(alloc, system) {
-        Err(fail) => Err(fail),
-        Ok(Verdict::HasPoint) => Ok(None),
-        Ok(Verdict::Empty(certificate)) => Ok(Some(certificate)),
     }
 }
 

@@ -1,6 +1,6 @@
 //! The systems of a SCoP decided in order, and the block of what was decided.
 
-ghost use Rattle.std.specs.Prelude.{◌≡◌, ◌≤◌, ◌++◌, true, length, IfOk, IfErr, OnOk};
+ghost use Rattle.std.specs.Prelude.{◌≡◌, ◌≤◌, ◌++◌, true, length, IfOk, IfErr, IfSome, OnOk};
 ghost use Rattle.suite_base.specs.Limits.{max_systems};
 ghost use Rattle.scop_core.specs.Sequences.{In};
 ghost use Rattle.scop_core.specs.Printable.{are_kept_lines, is_kept, arrays_name};
@@ -8,13 +8,16 @@ ghost use Rattle.dependence_systems.specs.Sides.{own_sides};
 ghost use Rattle.dependence_systems.specs.Originals.{own_originals};
 ghost use Rattle.dependence_systems.specs.Entries.{entries};
 ghost use Rattle.dependence_blocks.specs.Blocks.{block_name, block_of};
+ghost use Rattle.candl_deps.specs.Bases.{IsBase};
 ghost use Rattle.candl_deps.specs.Decisions.{IsCause, StopsOne};
 ghost use Rattle.candl_deps.specs.Found as spec;
 
-use crate::decisions::{Decided, decided_entry, own_entries, refused};
-use crate::held::Dependences;
+use crate::bases::{Base, Level, decided_entry};
+use crate::decisions::{own_entries, refused};
+use crate::held::{Decided, Dependences};
 use dependence_blocks::{block, entry_is_readable, print_count, print_entry};
 use dependence_systems::{Dep, own_pieces};
+use relation_core::Part;
 use scop_core::{Extension, Pieces, Scop};
 use std::alloc::Global;
 use suite_base::{Fail, List, NoMemory, Text};
@@ -46,32 +49,53 @@ fn decided_entries(
 {
     let items = list.as_slice();
     let mut made = List::new(alloc);
+    let mut held = None;
     for k in 0..items.len() {
-        push_decided(alloc, scop, pieces, &items[k], k as u32 + 1, &mut made)?;
+        let number = k as u32 + 1;
+        let base = push_decided(alloc, scop, pieces, &items[k], number, held, &mut made)?;
+        held = Some(base);
     }
     Ok(made)
 }
 
-// Appends the decided system of an entry; `number` is that of its system.
+// A copy of a part.
+fn copied(alloc: Global, part: &Part) -> Result<Part, NoMemory>
+    ensures { IfOk result (λ made. made ≡ part.now) }
+{
+    let mut made = Part::new(alloc, part.shape());
+    made.conjoin(part)?;
+    Ok(made)
+}
+
+// Appends the decided system of an entry; `number` is that of its system, and `held` the base of an entry before
+// it. It answers the entry's own base.
 fn push_decided(
     alloc: Global,
     scop: &Scop,
     pieces: &Pieces,
     entry: &Dep,
     number: u32,
+    held: Option<Base>,
     made: &mut List<Decided>,
-) -> Result<(), Fail>
+) -> Result<Base, Fail>
     requires own { pieces.now ≡ own_originals scop.now }
     requires listed { In entry.now (entries (own_sides scop.now)) }
+    requires held { IfSome held (IsBase scop.now.context (own_sides scop.now)) }
+    ensures base { IfOk result (IsBase scop.now.context (own_sides scop.now)) }
     ensures pushed { OnOk result (spec.IsPushed scop.now.context (own_sides scop.now) entry.now made.old made.new) }
     ensures cause { IfErr result (StopsOne scop.now.context (own_sides scop.now) entry.now number) }
 {
-    match decided_entry(alloc, scop, pieces, entry) {
+    match decided_entry(alloc, scop, pieces, entry, held) {
         Err(fail) => Err(refused(fail, number)),
-        Ok(one) => {
-            entry_is_readable(entry, &one.system, &one.certificate);
-            made.push(one)?;
-            Ok(())
+        Ok(level) => {
+            let Level { base, certificate } = level;
+            let system = copied(alloc, &base.part)?;
+            entry_is_readable(entry, &system, &certificate);
+            made.push(Decided {
+                system,
+                certificate,
+            })?;
+            Ok(base.cut_back())
         }
     }
 }

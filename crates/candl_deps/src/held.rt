@@ -4,11 +4,17 @@ ghost use Rattle.std.specs.Prelude.{◌≡◌};
 ghost use Rattle.std.specs.Option.{option_copied};
 ghost use Rattle.candl_deps.specs.Found as spec;
 
-use crate::decisions::Decided;
 use dependence_systems::Dep;
 use farkas_cert::Certificate;
 use relation_core::Part;
 use suite_base::List;
+
+/// A system and its verdict: no certificate where it is kept, that is where it has a rational point.
+#[derive(Drop)]
+pub struct Decided {
+    pub system: Part,
+    pub certificate: Option<Certificate>,
+}
 
 /// The systems of a SCoP in order, each with its rows and either kept or with a certificate.
 #[derive(Drop)]

@@ -20,12 +20,12 @@ print_one-requires-clause-listed c =
     let e : Dep = slice_index_or items c.loop-k.k no_entry in
     subst (λ (xs : List Dep). In e xs) (c.as_slice-items.ensures ∙ c.requires.list) (in_here items c.loop-k.k e (at_place items c.loop-k.k no_entry (omega arith)))
 
-pub returns-in_err-print_one-clause-cause : goal.returns-in_err-print_one-clause-cause
-returns-in_err-print_one-clause-cause c =
+pub returns-in_err-base-clause-cause : goal.returns-in_err-base-clause-cause
+returns-in_err-base-clause-cause c =
     let p = err_from_is_err_and c.from_residual.result c.from_residual.ensures.1 in
     let few : length c.as_slice-items.result.now ≤ max_systems = rw c.as_slice-items.ensures c.requires.few in
-    rw (p.1, p.2) (one_stops c.args.scop.now c.as_slice-items.result.now c.loop-k.k no_entry c.in_err-print_one.field-0.0
-    (c.as_slice-items.ensures ∙ c.requires.list) few (omega arith) c.loop-k.invariant.printed.light c.in_err-print_one.ensures.cause)
+    rw (p.1, p.2) (one_stops c.args.scop.now c.as_slice-items.result.now c.loop-k.k no_entry c.in_err-base.field-0.0
+    (c.as_slice-items.ensures ∙ c.requires.list) few (omega arith) c.loop-k.invariant.printed.light c.in_err-base.ensures.cause)
 
 pub loop-k-preserved : goal.loop-k-preserved
 loop-k-preserved c =
@@ -34,6 +34,7 @@ loop-k-preserved c =
       printed = subst (λ (xs : List Dep). IsPrinted c.args.scop.now.context (own_sides c.args.scop.now) xs c.args.lines.now c.print_one.new.lines)
           (sym (one_more_taken items c.loop-k.k no_entry (omega arith)))
           (printed_more c.args.scop.now.context (own_sides c.args.scop.now) (take c.loop-k.k items) (slice_index_or items c.loop-k.k no_entry ∷ [])
-          c.args.lines.now c.loop-k.lines c.print_one.new.lines c.loop-k.invariant.printed c.in_ok-print_one.ensures.printed);
-      kept = c.in_ok-print_one.ensures.kept;
+          c.args.lines.now c.loop-k.lines c.print_one.new.lines c.loop-k.invariant.printed c.in_ok-base.ensures.printed);
+      kept = c.in_ok-base.ensures.kept;
+      held = c.in_ok-base.ensures.base;
     }
