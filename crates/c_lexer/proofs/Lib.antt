@@ -3,6 +3,10 @@ pub mod PlaceLemmas
 pub mod RegionBounds
 pub mod TokenLemmas
 pub mod ReadingLemmas
+pub mod NumberLemmas
+pub mod WordLemmas
+pub mod TokenFacts
+pub mod SymbolFacts
 mod Checks
 pub mod TokenForms
 pub mod TokenLaws

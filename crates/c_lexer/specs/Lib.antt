@@ -5,3 +5,8 @@ pub mod Tokens
 pub mod Readings
 pub mod TokenForms
 pub mod Separators
+pub mod Pieces
+pub mod Symbols
+pub mod Input
+pub mod Cursor
+pub mod Stops

@@ -3,9 +3,11 @@
 ghost use Rattle.std.specs.Prelude.{◌≡◌, ◌<◌, ◌≤◌, ◌+◌, ◌-◌, ◌^◌, length, take, drop, IfOk, IfNone, OnErr, Ok, None};
 ghost use Rattle.c_lexer.specs.Places.{place_at};
 ghost use Rattle.c_lexer.specs.Tokens.{gap};
+ghost use Rattle.c_lexer.specs.Pieces.{bytes_of};
 ghost use Rattle.c_lexer.specs.Readings as spec;
 
 use crate::cuts::{gap, token_at};
+use crate::pieces::{Piece, piece_bytes};
 use crate::place_steps::after_bytes;
 use crate::regions::Span;
 use crate::tokens::{BadToken, Token};
@@ -66,17 +68,11 @@ impl<'a> Lexer<'a> {
         self.text.len()
     }
 
-    /// The bytes of the text from `from` up to `to`, as far as it has them.
-    pub fn bytes(&self, from: usize, to: usize) -> &'a [u8]
-        ensures { result.now ≡ spec.slice self.now.text from to }
+    /// The bytes of a piece of the text, as far as it has them.
+    pub fn bytes(&self, piece: Piece) -> &'a [u8]
+        ensures { result.now ≡ bytes_of self.now.text piece }
     {
-        if from >= to || from >= self.text.len() {
-            return &[];
-        }
-        if to >= self.text.len() {
-            return &self.text[from..];
-        }
-        &self.text[from..to]
+        piece_bytes(self.text, piece)
     }
 
     /// The place where reading goes on: behind the last token, or the end where none is left.

@@ -2,12 +2,12 @@
 use Rattle.std.proofs.Common.{◌≡◌, ℕ, false, List, [], ◌∷◌, refl, arith}
 use Rattle.std.specs.Prelude.{codes}
 use Rattle.c_lexer.specs.Readings.{Reading}
+use Rattle.c_lexer.specs.Symbols.{name_symbol, is_sound}
+use Rattle.c_lexer.specs.Input.{symbol, start, behind, piece, after}
 use Rattle.c_parser.specs.declared.tree.Step.TheVariants as st
 use Rattle.c_parser.specs.declared.tree.Node.TheVariants as node
-use Rattle.c_parser.specs.Symbols.{name_symbol}
-use Rattle.c_parser.specs.Input.{symbol, start, behind, piece, after}
 use Rattle.c_parser.specs.Derivations.{step, Derived, IsStatement}
-use Rattle.c_parser.specs.Prefixes.{later, is_sound, nests_among, loops_among}
+use Rattle.c_parser.specs.Prefixes.{later, nests_among, loops_among}
 
 abbrev text : List ℕ → Reading
 text bytes = record { text = bytes; at = 0 }

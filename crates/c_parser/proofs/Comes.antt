@@ -6,16 +6,16 @@ use Rattle.std.proofs.lemmas.Bool.Decides.{eqb_tells}
 use Rattle.suite_base.specs.declared.places.Place.{Place}
 use Rattle.suite_base.specs.declared.refusals.Refusal.{Refusal}
 use Rattle.suite_base.specs.declared.refusals.Refusal.TheVariants.{TooDeep}
+use Rattle.c_lexer.specs.declared.stops.Stop.TheVariants.{Memory, Refused}
+use Rattle.c_lexer.specs.declared.symbols.Symbol.{Symbol}
+use Rattle.c_lexer.specs.declared.symbols.Symbol.TheVariants as s
+use Rattle.c_lexer.specs.declared.pieces.Piece.{Piece}
 use Rattle.c_lexer.specs.Readings.{Reading}
-use Rattle.c_parser.specs.declared.stops.Stop.TheVariants.{Memory, Refused}
-use Rattle.c_parser.specs.declared.symbols.Symbol.{Symbol}
-use Rattle.c_parser.specs.declared.symbols.Symbol.TheVariants as s
-use Rattle.c_parser.specs.declared.tree.Piece.{Piece}
-use Rattle.c_parser.specs.Symbols.{same_symbol}
-use Rattle.c_parser.specs.Input.{Outcome, Parser, and_then, ◌>>=◌, ◌>>◌, pure, eat, expect, open_nest, left, here, symbol, piece, after, after_if}
+use Rattle.c_lexer.specs.Symbols.{same_symbol}
+use Rattle.c_lexer.specs.Input.{Outcome, Parser, and_then, ◌>>=◌, ◌>>◌, pure, eat, expect, open_nest, left, here, symbol, piece, after, after_if}
+use Rattle.c_lexer.proofs.TokenFacts.{same_is, differs, sees_it, sees_other, left_less, not_true}
 use Rattle.c_parser.specs.Values.{signed_from, separated_from, product_sign, sum_sign, rel_sign, equal_sign}
 use Rattle.c_parser.specs.Grammar.{Phrase, ◌then◌, token, word, signed, others}
-use Rattle.c_parser.proofs.TokenFacts.{same_is, differs, sees_it, sees_other, left_less, not_true}
 use Rattle.c_parser.proofs.Yields.{Yields, Takes, some_nests, OfToken}
 
 -- the rest of a phrase behind its first token

@@ -1,16 +1,12 @@
-pub mod NumberLemmas
-pub mod WordLemmas
 pub mod Turns
 pub mod ValueLemmas
 pub mod StatementLemmas
-pub mod TokenFacts
 pub mod Yields
 pub mod ValueYields
 pub mod StatementYields
 pub mod Comes
 pub mod ValueComes
 pub mod StatementComes
-pub mod SymbolFacts
 pub mod Runs
 pub mod ValueRuns
 pub mod StatementRuns

@@ -3,15 +3,16 @@ use Rattle.std.proofs.Common.{◌≡◌, ℕ, List, Result, Some, Ok, Err, IfOk,
 use Rattle.suite_base.specs.declared.refusals.Fail.{Fail}
 use Rattle.suite_base.specs.declared.refusals.Fail.TheVariants as fail
 use Rattle.c_lexer.specs.declared.regions.Span.{Span}
+use Rattle.c_lexer.specs.declared.stops.Stop.{Stop}
+use Rattle.c_lexer.specs.declared.stops.Stop.TheVariants.{Memory, Refused}
 use Rattle.c_lexer.specs.Readings.{Reading}
+use Rattle.c_lexer.specs.Input.{Outcome}
+use Rattle.c_lexer.proofs.SymbolFacts.{no_token, large_integer}
 use Rattle.suite_base.specs.declared.refusals.Refusal.{Refusal}
 use Rattle.suite_base.specs.declared.refusals.Refusal.TheVariants.{BadToken, NumberTooLarge, BadSyntax, TooDeep}
 use Rattle.suite_base.specs.declared.places.Place.{Place}
-use Rattle.c_parser.specs.declared.stops.Stop.{Stop}
-use Rattle.c_parser.specs.declared.stops.Stop.TheVariants.{Memory, Refused}
 use Rattle.c_parser.specs.declared.tree.Node.{Node}
 use Rattle.c_parser.specs.declared.tree.Region.{Region}
-use Rattle.c_parser.specs.Input.{Outcome}
 use Rattle.c_parser.specs.Statements.{region}
 use Rattle.c_parser.specs.Derivations.{Derived}
 use Rattle.c_parser.specs.Regions.{reading_at, IsRegion, Answers, Completes, HasReason, answer_of, Parses}
@@ -20,7 +21,6 @@ use Rattle.c_parser.proofs.StatementYields.{region_yields}
 use Rattle.c_parser.proofs.Comes.{Comes, IsLimit}
 use Rattle.c_parser.proofs.StatementComes.{region_comes}
 use Rattle.c_parser.specs.Prefixes.{later, HasCause}
-use Rattle.c_parser.proofs.SymbolFacts.{no_token, large_integer}
 use Rattle.c_parser.proofs.Runs.{Runs, Fails, kind}
 use Rattle.c_parser.proofs.StatementRuns.{region_runs}
 

@@ -4,18 +4,18 @@ use Rattle.std.proofs.lemmas.Bool.Decides.{eqb_tells}
 use Rattle.suite_base.specs.declared.places.Place.{Place}
 use Rattle.suite_base.specs.declared.refusals.Refusal.{Refusal}
 use Rattle.suite_base.specs.declared.refusals.Refusal.TheVariants.{BadToken, NumberTooLarge, BadSyntax, TooDeep}
+use Rattle.c_lexer.specs.declared.stops.Stop.TheVariants.{Memory, Refused}
+use Rattle.c_lexer.specs.declared.symbols.Symbol.{Symbol}
+use Rattle.c_lexer.specs.declared.symbols.Symbol.TheVariants as s
+use Rattle.c_lexer.specs.declared.pieces.Piece.{Piece}
 use Rattle.c_lexer.specs.Readings.{Reading}
-use Rattle.c_parser.specs.declared.stops.Stop.TheVariants.{Memory, Refused}
-use Rattle.c_parser.specs.declared.symbols.Symbol.{Symbol}
-use Rattle.c_parser.specs.declared.symbols.Symbol.TheVariants as s
-use Rattle.c_parser.specs.declared.tree.Piece.{Piece}
-use Rattle.c_parser.specs.Symbols.{same_symbol}
-use Rattle.c_parser.specs.Input.{Outcome, Parser, and_then, ◌>>=◌, ◌>>◌, pure, refusal_at, refusal, refuse, peek, position, take_token, eat, expect, open_nest, left, here, symbol, start, piece, after, after_if, sees}
+use Rattle.c_lexer.specs.Symbols.{same_symbol, is_sound}
+use Rattle.c_lexer.specs.Input.{Outcome, Parser, and_then, ◌>>=◌, ◌>>◌, pure, refusal_at, refusal, refuse, peek, position, take_token, eat, expect, open_nest, left, here, symbol, start, piece, after, after_if, sees}
+use Rattle.c_lexer.proofs.TokenFacts.{seen, not_seen, left_less}
 use Rattle.c_parser.specs.Values.{go_on, signed_from, separated_from, separated}
-use Rattle.c_parser.proofs.TokenFacts.{seen, not_seen, left_less}
 use Rattle.std.proofs.lemmas.Bool.{eqb-true}
 use Rattle.c_parser.proofs.Yields.{Yields, Takes, some_nests}
-use Rattle.c_parser.specs.Prefixes.{later, SameTokens, is_sound, Sound, nests_among, loops_among, IsDeep}
+use Rattle.c_parser.specs.Prefixes.{later, SameTokens, Sound, nests_among, loops_among, IsDeep}
 
 -- ---- beginnings
 

@@ -2,10 +2,15 @@
 use Rattle.std.proofs.Common.{◌≡◌, ℕ, zero, suc, ◌≤◌, ◌<◌, ◌==◌, Bool, true, false, if◌then◌else◌, List, [], ◌∷◌, ◌++◌, Option, Some, None, Ok, Err, inl, inr, refl, ap, sym, subst, ◌∙◌, arith, append_assoc}
 use Rattle.std.proofs.lemmas.List.{append-nil}
 use Rattle.std.proofs.lemmas.Slice.Eq.{bytes_eq-Decides}
+use Rattle.c_lexer.specs.declared.symbols.Symbol.{Symbol}
+use Rattle.c_lexer.specs.declared.symbols.Symbol.TheVariants as s
+use Rattle.c_lexer.specs.declared.pieces.Piece.{Piece}
+use Rattle.c_lexer.specs.declared.stops.Stop.TheVariants.{Refused}
 use Rattle.c_lexer.specs.Readings.{Reading}
-use Rattle.c_parser.specs.declared.symbols.Symbol.{Symbol}
-use Rattle.c_parser.specs.declared.symbols.Symbol.TheVariants as s
-use Rattle.c_parser.specs.declared.tree.Piece.{Piece}
+use Rattle.c_lexer.specs.Input.{Parser, and_then, ◌>>=◌, ◌>>◌, pure, refuse, take_token, eat, expect, open_nest, left, symbol, start, piece, after, same_text, sees_name, same_name, open_loop}
+use Rattle.c_lexer.specs.Input.{here}
+use Rattle.c_lexer.specs.Pieces.{bytes_of}
+use Rattle.c_lexer.proofs.TokenFacts.{same_is, sees_it, not_true}
 use Rattle.c_parser.specs.declared.tree.Rel.{Rel}
 use Rattle.c_parser.specs.declared.tree.Step.{Step}
 use Rattle.c_parser.specs.declared.tree.Step.TheVariants as st
@@ -15,20 +20,16 @@ use Rattle.c_parser.specs.declared.tree.Assign.{Assign}
 use Rattle.c_parser.specs.declared.tree.Node.{Node}
 use Rattle.c_parser.specs.declared.tree.Node.TheVariants as node
 use Rattle.c_parser.specs.declared.heads.Head.{Head}
-use Rattle.c_parser.specs.Input.{Parser, and_then, ◌>>=◌, ◌>>◌, pure, refuse, take_token, eat, expect, open_nest, left, symbol, start, piece, after}
 use Rattle.c_parser.specs.Values.{rel_sign, below}
-use Rattle.c_parser.specs.Statements.{assign_sign, is_name, sees_name, same_name, is_upward, rel, assigned, add_sign, pre_step, post_step, number_step, step_behind, step, open_round, head_rest, head, assign, open_loop, begins_statement, loop_of, branch_of, block_from, for_loop, branch, else_branch, if_branch, block_nodes, block, statement_by, statement_rule, level, statement, inner, body, region_from, region}
+use Rattle.c_parser.specs.Statements.{assign_sign, is_upward, rel, assigned, add_sign, pre_step, post_step, number_step, step_behind, step, open_round, head_rest, head, assign, begins_statement, loop_of, branch_of, block_from, for_loop, branch, else_branch, if_branch, block_nodes, block, statement_by, statement_rule, level, statement, inner, body, region_from, region}
 use Rattle.c_parser.specs.Grammar as g
 use Rattle.c_parser.specs.Grammar.{Phrase, ◌then◌, token, word, empty, each, rel_token, nested}
 use Rattle.c_parser.specs.Derivations as d
-use Rattle.c_parser.specs.Derivations.{assign_token, bytes_of, same, is_up, Derived}
+use Rattle.c_parser.specs.Derivations.{assign_token, same, is_up, Derived}
 use Rattle.std.proofs.lemmas.Bool.Decides.{eqb_tells}
 use Rattle.suite_base.specs.declared.places.Place.{Place}
 use Rattle.suite_base.specs.declared.refusals.Refusal.TheVariants.{TooDeep}
-use Rattle.c_parser.specs.declared.stops.Stop.TheVariants.{Refused}
 use Rattle.c_parser.specs.declared.tree.Value.{Value}
-use Rattle.c_parser.specs.Input.{here}
-use Rattle.c_parser.proofs.TokenFacts.{same_is, sees_it, not_true}
 use Rattle.c_parser.proofs.Yields.{Takes, some_nests}
 use Rattle.c_parser.proofs.StatementYields.{statement_takes}
 use Rattle.c_parser.proofs.Comes.{token_then, power, ends, other, Comes, Room, less_room, then_comes, goes_far, expect_comes, word_comes, open_comes, opened_comes, eat_yes, eat_no, choose_yes, choose_no}
@@ -75,7 +76,7 @@ module _ (Deep : Type 0) where
   same_comes : (name : Piece) (r m : Reading) → same name r m → Comes Deep tt m (same_name name r)
   unfolding same_name sees_name
   same_comes name r m d =
-      let n : is_name r.text name (piece r) ≡ true = (bytes_eq-Decides (bytes_of r name) (bytes_of r (piece r))).1 (sym d.1) in
+      let n : same_text r.text name (piece r) ≡ true = (bytes_eq-Decides (bytes_of r.text name) (bytes_of r.text (piece r))).1 (sym d.1) in
       rw (sees_it s.Name r d.0, n) (refl, d.2)
 
   rel_comes : (x : Rel) (r m : Reading) → token (rel_token x) r m → Comes Deep x m (rel r)

@@ -1,9 +1,14 @@
 -- The rules of statements look no further than the next token, and stop for the causes that are stated.
 use Rattle.std.proofs.Common.{◌≡◌, ℕ, zero, suc, ◌+◌, ◌≤◌, ◌<◌, ◌==◌, Bool, true, false, if◌then◌else◌, List, [], ◌∷◌, ◌++◌, Option, Some, None, Ok, Err, inl, refl, ap, sym, subst, ◌∙◌, arith}
+use Rattle.c_lexer.specs.declared.symbols.Symbol.{Symbol}
+use Rattle.c_lexer.specs.declared.symbols.Symbol.TheVariants as s
+use Rattle.c_lexer.specs.declared.pieces.Piece.{Piece}
+use Rattle.c_lexer.specs.declared.stops.Stop.TheVariants.{Refused}
 use Rattle.c_lexer.specs.Readings.{Reading, slice}
-use Rattle.c_parser.specs.declared.symbols.Symbol.{Symbol}
-use Rattle.c_parser.specs.declared.symbols.Symbol.TheVariants as s
-use Rattle.c_parser.specs.declared.tree.Piece.{Piece}
+use Rattle.c_lexer.specs.Symbols.{same_symbol, is_sound}
+use Rattle.c_lexer.specs.Input.{here, Parser, and_then, ◌>>=◌, ◌>>◌, pure, refuse, peek, position, take_token, eat, expect, open_nest, left, symbol, start, piece, after, after_if, sees, same_text, sees_name, same_name, open_loop}
+use Rattle.c_lexer.specs.Pieces.{bytes_of}
+use Rattle.c_lexer.proofs.TokenFacts.{seen, is_same}
 use Rattle.c_parser.specs.declared.tree.Rel.{Rel}
 use Rattle.c_parser.specs.declared.tree.Sum.{Sum}
 use Rattle.c_parser.specs.declared.tree.Step.{Step}
@@ -12,21 +17,16 @@ use Rattle.c_parser.specs.declared.tree.Assign.{Assign}
 use Rattle.c_parser.specs.declared.tree.Node.{Node}
 use Rattle.c_parser.specs.declared.tree.Node.TheVariants as node
 use Rattle.c_parser.specs.declared.heads.Head.{Head}
-use Rattle.c_parser.specs.Symbols.{same_symbol}
-use Rattle.c_parser.specs.Input.{here, Parser, and_then, ◌>>=◌, ◌>>◌, pure, refuse, peek, position, take_token, eat, expect, open_nest, left, symbol, start, piece, after, after_if, sees}
 use Rattle.c_parser.specs.Values.{rel_sign, below, value, target}
-use Rattle.c_parser.specs.Statements.{assign_sign, is_name, sees_name, same_name, is_upward, some_of, rel, assigned, step_sign, add_sign, pre_step, post_step, number_step, step_behind, step, open_round, head_rest, head, assign, open_loop, begins_statement, block_from, for_loop, branch, else_branch, if_branch, block_nodes, block, statement_by, statement_rule, level, statement, inner, region_from, region}
+use Rattle.c_parser.specs.Statements.{assign_sign, is_upward, some_of, rel, assigned, step_sign, add_sign, pre_step, post_step, number_step, step_behind, step, open_round, head_rest, head, assign, begins_statement, block_from, for_loop, branch, else_branch, if_branch, block_nodes, block, statement_by, statement_rule, level, statement, inner, region_from, region}
 use Rattle.std.specs.Str.{bytes_eq}
 use Rattle.std.proofs.lemmas.Bool.{eqb-true}
 use Rattle.suite_base.specs.declared.refusals.Refusal.TheVariants.{TooDeep}
-use Rattle.c_parser.specs.declared.stops.Stop.TheVariants.{Refused}
 use Rattle.c_parser.specs.declared.tree.Target.{Target}
 use Rattle.c_parser.specs.declared.tree.Value.{Value}
-use Rattle.c_parser.specs.Derivations.{bytes_of}
-use Rattle.c_parser.proofs.TokenFacts.{seen, is_same}
 use Rattle.c_parser.proofs.Yields.{Takes}
 use Rattle.c_parser.proofs.StatementYields.{statement_takes}
-use Rattle.c_parser.specs.Prefixes.{later, SameTokens, is_sound, Sound, opens_nest, nests_among, opens_loop, loops_among}
+use Rattle.c_parser.specs.Prefixes.{later, SameTokens, Sound, opens_nest, nests_among, opens_loop, loops_among}
 use Rattle.c_parser.proofs.Runs.{shorter, more_nests, more_loops, Runs, runs_as, runs_far, bind, take_next, open_next, choose, choose_next, eat_next, expect_then, expect_next, pure_runs, refuse_runs, peek_then, position_then, eat_then, limit_then, again, loop_runs, alike_far}
 use Rattle.c_parser.proofs.ValueRuns.{Before, Within, before_on, within_on, enter, inner_runs, rel_sound, target_runs, value_runs}
 
@@ -57,28 +57,28 @@ module _ (r : Reading) where
   named_on : (name : Reading → Piece) (i k : ℕ) → i ≤ k → Named name i → Named name k
   named_on name i k h d = (d.0, omega (arith, d.1, h), d.2)
 
-  same_bytes : (name : Reading → Piece) (i : ℕ) (x : Reading) → Named name i → SameTokens (suc i) r x → bytes_of (later i r) (name r) ≡ bytes_of (later i x) (name x)
+  same_bytes : (name : Reading → Piece) (i : ℕ) (x : Reading) → Named name i → SameTokens (suc i) r x → bytes_of (later i r).text (name r) ≡ bytes_of (later i x).text (name x)
   same_bytes name i x (j, below, is) d =
       let n = (shorter (suc j) (suc i) r x (omega (arith, below)) d).1 in
       let B : List ℕ → Piece → List ℕ = λ text p. slice text p.from p.to in
-      ap (λ p. bytes_of (later i r) p) (sym (is r))
+      ap (λ p. bytes_of (later i r).text p) (sym (is r))
       ∙ (ap (λ text. B text (piece (later j r))) (later_text i r ∙ sym (later_text j r))
       ∙ (n.1
-      ∙ (ap (λ p. bytes_of (later j x) p) (is x)
+      ∙ (ap (λ p. bytes_of (later j x).text p) (is x)
       ∙ ap (λ text. B text (name x)) (later_text j x ∙ sym (later_text i x)))))
 
   sees_alike : (name : Reading → Piece) (i : ℕ) (x : Reading) → Named name i → SameTokens (suc i) r x → sees_name (name r) (later i r) ≡ sees_name (name x) (later i x)
   unfolding sees_name sees
   sees_alike name i x named d =
-      ap (λ k. if same_symbol k s.Name then is_name (later i r).text (name r) (piece (later i r)) else false) d.1.0
-      ∙ (ap (λ b. if same_symbol (symbol (later i x)) s.Name then bytes_eq b (bytes_of (later i r) (piece (later i r))) else false) (same_bytes name i x named d)
-      ∙ ap (λ b. if same_symbol (symbol (later i x)) s.Name then bytes_eq (bytes_of (later i x) (name x)) b else false) d.1.1)
+      ap (λ k. if same_symbol k s.Name then same_text (later i r).text (name r) (piece (later i r)) else false) d.1.0
+      ∙ (ap (λ b. if same_symbol (symbol (later i x)) s.Name then bytes_eq b (bytes_of (later i r).text (piece (later i r))) else false) (same_bytes name i x named d)
+      ∙ ap (λ b. if same_symbol (symbol (later i x)) s.Name then bytes_eq (bytes_of (later i x).text (name x)) b else false) d.1.1)
 
   name_seen : (name : Piece) (x : Reading) → sees_name name x ≡ true → is_sound (symbol x) ≡ true
   unfolding sees_name
   name_seen name x e = go (sees s.Name x) refl e
     where
-      go : (b : Bool) → sees s.Name x ≡ b → (if b then is_name x.text name (piece x) else false) ≡ true → is_sound (symbol x) ≡ true
+      go : (b : Bool) → sees s.Name x ≡ b → (if b then same_text x.text name (piece x) else false) ≡ true → is_sound (symbol x) ≡ true
       go true f e = ap is_sound (seen s.Name x f)
       go false f e = absurd (cc)
 

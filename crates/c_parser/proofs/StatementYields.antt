@@ -3,25 +3,26 @@ use Rattle.std.proofs.Common.{◌≡◌, ℕ, zero, suc, ◌<◌, ◌==◌, Bool
 use Rattle.std.proofs.lemmas.List.{append-nil}
 use Rattle.std.specs.Str.{bytes_eq}
 use Rattle.std.proofs.lemmas.Slice.Eq.{bytes_eq-Decides}
+use Rattle.c_lexer.specs.declared.symbols.Symbol.{Symbol}
+use Rattle.c_lexer.specs.declared.symbols.Symbol.TheVariants as s
+use Rattle.c_lexer.specs.declared.pieces.Piece.{Piece}
 use Rattle.c_lexer.specs.Readings.{Reading}
-use Rattle.c_parser.specs.declared.symbols.Symbol.{Symbol}
-use Rattle.c_parser.specs.declared.symbols.Symbol.TheVariants as s
-use Rattle.c_parser.specs.declared.tree.Piece.{Piece}
+use Rattle.c_lexer.specs.Symbols.{same_symbol}
+use Rattle.c_lexer.specs.Input.{Parser, ◌>>=◌, ◌>>◌, pure, refuse, eat, expect, left, symbol, start, piece, after, sees, same_text, sees_name, same_name, open_loop}
+use Rattle.c_lexer.specs.Pieces.{bytes_of}
+use Rattle.c_lexer.proofs.TokenFacts.{seen, is_same, some_is, not_seen, left_after}
 use Rattle.c_parser.specs.declared.tree.Sum.{Sum}
 use Rattle.c_parser.specs.declared.tree.Step.{Step}
 use Rattle.c_parser.specs.declared.tree.AssignSign.{AssignSign}
 use Rattle.c_parser.specs.declared.tree.Node.{Node}
 use Rattle.c_parser.specs.declared.tree.Node.TheVariants as node
 use Rattle.c_parser.specs.declared.heads.Head.{Head}
-use Rattle.c_parser.specs.Symbols.{same_symbol}
-use Rattle.c_parser.specs.Input.{Parser, ◌>>=◌, ◌>>◌, pure, refuse, eat, expect, left, symbol, start, piece, after, sees}
 use Rattle.c_parser.specs.Values.{rel_sign, below}
-use Rattle.c_parser.specs.Statements.{assign_sign, is_name, sees_name, same_name, is_upward, some_of, rel, assigned, add_sign, pre_step, post_step, number_step, step_behind, step, open_round, head_rest, head, assign, open_loop, begins_statement, block_from, for_loop, branch, else_branch, if_branch, block_nodes, block, statement_by, statement_rule, level, statement, inner, region_from, region}
+use Rattle.c_parser.specs.Statements.{assign_sign, is_upward, some_of, rel, assigned, add_sign, pre_step, post_step, number_step, step_behind, step, open_round, head_rest, head, assign, begins_statement, block_from, for_loop, branch, else_branch, if_branch, block_nodes, block, statement_by, statement_rule, level, statement, inner, region_from, region}
 use Rattle.c_parser.specs.Grammar as g
 use Rattle.c_parser.specs.Grammar.{Phrase, ◌then◌, token, word, empty, each, rel_token, nested}
 use Rattle.c_parser.specs.Derivations as d
-use Rattle.c_parser.specs.Derivations.{assign_token, bytes_of, same, is_up, Derived}
-use Rattle.c_parser.proofs.TokenFacts.{seen, is_same, some_is, not_seen, left_after}
+use Rattle.c_parser.specs.Derivations.{assign_token, same, is_up, Derived}
 use Rattle.c_parser.proofs.Yields.{Yields, then_yields, if_yields, choose_yields, expect_yields, yields_so, opened, eat_yields, some_nests, Takes, then_takes, take_takes, open_takes, opened_takes, takes_yields}
 use Rattle.c_parser.proofs.ValueYields.{rel_back, target_takes, value_yields, nested_derives}
 
@@ -44,9 +45,9 @@ both_true false c e = absurd (cc)
 pub same_yields : (name : Piece) (r : Reading) → Yields r (λ x m. same name r m) (same_name name r)
 unfolding same_name sees_name
 same_yields name r =
-    if_yields r (λ x m. same name r m) (if sees s.Name r then is_name r.text name (piece r) else false) _ _
-    (λ e. let h = both_true (sees s.Name r) (is_name r.text name (piece r)) e in
-    (left_after r, (seen s.Name r h.0, sym (same_bytes (bytes_of r name) (bytes_of r (piece r)) h.1), refl)))
+    if_yields r (λ x m. same name r m) (if sees s.Name r then same_text r.text name (piece r) else false) _ _
+    (λ e. let h = both_true (sees s.Name r) (same_text r.text name (piece r)) e in
+    (left_after r, (seen s.Name r h.0, sym (same_bytes (bytes_of r.text name) (bytes_of r.text (piece r)) h.1), refl)))
     (λ e. tt)
 
 some_yields : {A : Type 0} (o : Option A) (r : Reading) → Yields r (λ x m. (o ≡ Some x) × (after r ≡ m)) (some_of o r)

@@ -2,8 +2,8 @@
 use Rattle.std.proofs.Common.{◌≡◌, inl, inr, ℕ, ◌-◌, ◌<◌, ◌==◌, false, List, [], ◌∷◌, ◌++◌, Some, ap, sym, ◌∙◌, arith}
 use Rattle.std.proofs.lemmas.Bool.Decides.{eqb_tells}
 use Rattle.c_lexer.specs.Readings.{Reading}
+use Rattle.c_lexer.specs.Input.{symbol, after, open_nest}
 use Rattle.c_parser.specs.declared.tree.UnarySign.{UnarySign}
-use Rattle.c_parser.specs.Input.{symbol, after, open_nest}
 use Rattle.c_parser.specs.Values.{below, unary, unary_by, unary_sign}
 use Rattle.c_parser.proofs.Turns.{deeper}
 

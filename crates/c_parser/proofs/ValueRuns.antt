@@ -1,9 +1,12 @@
 -- The rules of values look no further than the next token, and stop for the causes that are stated.
 use Rattle.std.proofs.Common.{◌≡◌, ℕ, zero, suc, ◌+◌, ◌≤◌, ◌<◌, Bool, true, false, if◌then◌else◌, List, [], ◌∷◌, ◌++◌, Option, Some, None, refl, ap, ◌∙◌, arith}
+use Rattle.c_lexer.specs.declared.symbols.Symbol.{Symbol}
+use Rattle.c_lexer.specs.declared.symbols.Symbol.TheVariants as s
+use Rattle.c_lexer.specs.declared.pieces.Piece.{Piece}
 use Rattle.c_lexer.specs.Readings.{Reading}
-use Rattle.c_parser.specs.declared.symbols.Symbol.{Symbol}
-use Rattle.c_parser.specs.declared.symbols.Symbol.TheVariants as s
-use Rattle.c_parser.specs.declared.tree.Piece.{Piece}
+use Rattle.c_lexer.specs.Symbols.{same_symbol, is_sound}
+use Rattle.c_lexer.specs.Input.{Parser, ◌>>=◌, ◌>>◌, pure, refuse, peek, take_token, expect, open_nest, left, symbol, piece}
+use Rattle.c_lexer.proofs.TokenFacts.{is_same}
 use Rattle.c_parser.specs.declared.tree.Value.{Value, roll-Value}
 use Rattle.c_parser.specs.declared.tree.Arms.{Arms, roll-Arms}
 use Rattle.c_parser.specs.declared.tree.EqualSign.{EqualSign}
@@ -16,14 +19,11 @@ use Rattle.c_parser.specs.declared.tree.UnarySign.{UnarySign}
 use Rattle.c_parser.specs.declared.tree.Primary.{Primary}
 use Rattle.c_parser.specs.declared.tree.Primary.TheVariants as pri
 use Rattle.c_parser.specs.declared.tree.Target.{roll-Target}
-use Rattle.c_parser.specs.Symbols.{same_symbol}
-use Rattle.c_parser.specs.Input.{Parser, ◌>>=◌, ◌>>◌, pure, refuse, peek, take_token, expect, open_nest, left, symbol, piece}
 use Rattle.c_parser.specs.Values.{Rules, separated, equal_sign, rel_sign, sum_sign, product_sign, unary_sign, subscript, subscripts_from, subscripts, target, arguments, call, named, operator, bracket, primary_by, primary, operand, unary_by, unary, product_rest, product, sum_rest, sum, compare_rest, compare, equal_rest, equal, and_value, or_value, arms, value, below}
 use Rattle.c_parser.specs.Grammar.{nested}
-use Rattle.c_parser.proofs.TokenFacts.{is_same}
 use Rattle.c_parser.proofs.ValueYields as y
 use Rattle.c_parser.proofs.ValueYields.{nested_derives}
-use Rattle.c_parser.specs.Prefixes.{later, is_sound, Sound, opens_nest, nests_among}
+use Rattle.c_parser.specs.Prefixes.{later, Sound, opens_nest, nests_among}
 use Rattle.c_parser.proofs.Runs.{more_nests, Runs, runs_far, bind, take_next, open_next, choose_next, expect_then, expect_next, pure_runs, refuse_runs, peek_then, position_then, take_then, choose, eat_next, again, loop_runs, signed_runs, separated_runs, alike_far}
 
 equal_sound : (k : Symbol) (x : EqualSign) → equal_sign k ≡ Some x → is_sound k ≡ true

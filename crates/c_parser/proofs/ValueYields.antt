@@ -1,10 +1,13 @@
 -- The rules of values read what their productions derive.
 use Rattle.std.proofs.Common.{◌≡◌, ℕ, zero, suc, Bool, true, false, if◌then◌else◌, List, [], ◌∷◌, ◌++◌, Option, Some, None, Ok, inl, inr, refl, ap, sym, subst, ◌∙◌, arith, append_assoc}
 use Rattle.std.proofs.lemmas.List.{append-nil}
+use Rattle.c_lexer.specs.declared.symbols.Symbol.{Symbol}
+use Rattle.c_lexer.specs.declared.symbols.Symbol.TheVariants as s
+use Rattle.c_lexer.specs.declared.pieces.Piece.{Piece}
 use Rattle.c_lexer.specs.Readings.{Reading}
-use Rattle.c_parser.specs.declared.symbols.Symbol.{Symbol}
-use Rattle.c_parser.specs.declared.symbols.Symbol.TheVariants as s
-use Rattle.c_parser.specs.declared.tree.Piece.{Piece}
+use Rattle.c_lexer.specs.Symbols.{same_symbol}
+use Rattle.c_lexer.specs.Input.{◌>>=◌, ◌>>◌, pure, expect, left, symbol, piece, after, after_if, sees}
+use Rattle.c_lexer.proofs.TokenFacts.{seen, is_same, some_is}
 use Rattle.c_parser.specs.declared.tree.Value.{Value}
 use Rattle.c_parser.specs.declared.tree.EqualSign.{EqualSign}
 use Rattle.c_parser.specs.declared.tree.Rel.{Rel}
@@ -16,12 +19,9 @@ use Rattle.c_parser.specs.declared.tree.UnarySign.{UnarySign}
 use Rattle.c_parser.specs.declared.tree.Primary.{Primary}
 use Rattle.c_parser.specs.declared.tree.Primary.TheVariants as pri
 use Rattle.c_parser.specs.declared.tree.Target.{roll-Target}
-use Rattle.c_parser.specs.Symbols.{same_symbol}
-use Rattle.c_parser.specs.Input.{◌>>=◌, ◌>>◌, pure, expect, left, symbol, piece, after, after_if, sees}
 use Rattle.c_parser.specs.Values.{Rules, separated, equal_sign, rel_sign, sum_sign, product_sign, unary_sign, subscript, subscripts_from, subscripts, target, arguments, call, named, operator, bracket, primary_by, primary, operand, unary_by, unary, product_rest, product, sum_rest, sum, compare_rest, compare, equal_rest, equal, and_value, or_value, arms, value, below}
 use Rattle.c_parser.specs.Grammar as g
 use Rattle.c_parser.specs.Grammar.{Phrase, ◌then◌, token, word, empty, each, equal_token, rel_token, sum_token, product_token, unary_token, Forms, no_forms, nested}
-use Rattle.c_parser.proofs.TokenFacts.{seen, is_same, some_is}
 use Rattle.c_parser.proofs.Yields.{Yields, then_yields, take_yields, choose_yields, expect_yields, yields_so, opened, Takes, then_takes, take_takes, expect_takes, opened_takes, takes_yields, all_signed, all_separated}
 
 -- ---- a sign is the token that it is read from

@@ -2,15 +2,15 @@
 use Rattle.std.proofs.Common.{◌≡◌, ℕ, zero, suc, ◌≤◌, ◌<◌, ◌==◌, Bool, true, false, if◌then◌else◌, List, [], ◌∷◌, ◌++◌, Option, Some, None, Ok, Err, inl, inr, refl, sym, ◌∙◌, arith, append_assoc, subst}
 use Rattle.std.proofs.lemmas.List.{append-nil}
 use Rattle.std.proofs.lemmas.Bool.Decides.{eqb_tells}
-use Rattle.c_parser.specs.declared.stops.Stop.{Stop}
+use Rattle.c_lexer.specs.declared.stops.Stop.{Stop}
+use Rattle.c_lexer.specs.declared.symbols.Symbol.{Symbol}
+use Rattle.c_lexer.specs.declared.symbols.Symbol.TheVariants as s
 use Rattle.c_lexer.specs.Readings.{Reading}
-use Rattle.c_parser.specs.declared.symbols.Symbol.{Symbol}
-use Rattle.c_parser.specs.declared.symbols.Symbol.TheVariants as s
-use Rattle.c_parser.specs.Input.{Outcome, Parser, and_then, ◌>>=◌, ◌>>◌, pure, refuse, eat, expect, open_nest, left, symbol, piece, after, after_if, sees}
+use Rattle.c_lexer.specs.Input.{Outcome, Parser, and_then, ◌>>=◌, ◌>>◌, pure, refuse, eat, expect, open_nest, left, symbol, piece, after, after_if, sees}
+use Rattle.c_lexer.proofs.TokenFacts.{seen, left_after, left_less, not_true}
 use Rattle.c_parser.specs.Values.{go_on, signed_from, separated_from, separated}
 use Rattle.c_parser.specs.Grammar as g
 use Rattle.c_parser.specs.Grammar.{Phrase, ◌then◌, token, word, empty, signed, others, each}
-use Rattle.c_parser.proofs.TokenFacts.{seen, left_after, left_less, not_true}
 
 -- what is known of what a parser reads; reading goes on, never back
 abbrev pub Yields : {A : Type 0} → Reading → (A → Reading → Type 0) → Outcome A → Type 0

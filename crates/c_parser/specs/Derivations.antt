@@ -1,10 +1,12 @@
 -- The grammar of statements and regions, apart from how a text is read: which tokens are derived to which tree, one
 -- definition for each production. The numbers are those of the nests and of the loops that may be open at once.
 use Rattle.std.specs.Prelude.{◌≡◌, ◌≢◌, ◌⊎◌, ℕ, zero, suc, ◌<◌, Bool, true, false, List, Option, Some, None}
-use Rattle.c_lexer.specs.Readings.{Reading, slice}
-use Rattle.c_parser.specs.declared.symbols.Symbol.{Symbol}
-use Rattle.c_parser.specs.declared.symbols.Symbol.TheVariants as s
-use Rattle.c_parser.specs.declared.tree.Piece.{Piece}
+use Rattle.c_lexer.specs.declared.symbols.Symbol.{Symbol}
+use Rattle.c_lexer.specs.declared.symbols.Symbol.TheVariants as s
+use Rattle.c_lexer.specs.declared.pieces.Piece.{Piece}
+use Rattle.c_lexer.specs.Readings.{Reading}
+use Rattle.c_lexer.specs.Pieces.{bytes_of}
+use Rattle.c_lexer.specs.Input.{symbol, piece, after}
 use Rattle.c_parser.specs.declared.tree.Step.{Step}
 use Rattle.c_parser.specs.declared.tree.Step.TheVariants as st
 use Rattle.c_parser.specs.declared.tree.AssignSign.{AssignSign}
@@ -14,7 +16,6 @@ use Rattle.c_parser.specs.declared.tree.Node.{Node}
 use Rattle.c_parser.specs.declared.tree.Node.TheVariants as node
 use Rattle.c_parser.specs.declared.heads.Head.{Head}
 use Rattle.c_parser.specs.declared.tree.Value.{Value}
-use Rattle.c_parser.specs.Input.{symbol, piece, after}
 use Rattle.c_parser.specs.Statements.{is_upward, loop_of, branch_of}
 use Rattle.c_parser.specs.Grammar.{Phrase, ◌then◌, empty, none, token, word, begins, each, nest, rel_token, IsTarget, IsValue, nested}
 
@@ -26,13 +27,9 @@ assign_token sign.Times = s.TimesAssign
 assign_token sign.Divide = s.DivideAssign
 assign_token sign.Remainder = s.RemainderAssign
 
--- the bytes of a piece
-abbrev pub bytes_of : Reading → Piece → List ℕ
-bytes_of r p = slice r.text p.from p.to
-
 -- a name with the bytes of the one that stands at this piece
 abbrev pub same : Piece → Phrase
-same name r r' = (symbol r ≡ s.Name) × (bytes_of r (piece r) ≡ bytes_of r name) × (after r ≡ r')
+same name r r' = (symbol r ≡ s.Name) × (bytes_of r.text (piece r) ≡ bytes_of r.text name) × (after r ≡ r')
 
 -- ["int"]
 abbrev pub declared : Phrase

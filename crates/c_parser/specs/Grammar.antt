@@ -1,10 +1,11 @@
 -- The grammar of values, apart from how a text is read: which tokens are derived to which tree, one definition for
 -- each production. The number is that of the nests that may be open at once.
 use Rattle.std.specs.Prelude.{◌≡◌, ◌⊎◌, ℕ, zero, suc, ◌<◌, List, [], ◌∷◌, Option, Some, None}
+use Rattle.c_lexer.specs.declared.symbols.Symbol.{Symbol}
+use Rattle.c_lexer.specs.declared.symbols.Symbol.TheVariants as s
+use Rattle.c_lexer.specs.declared.pieces.Piece.{Piece}
 use Rattle.c_lexer.specs.Readings.{Reading}
-use Rattle.c_parser.specs.declared.symbols.Symbol.{Symbol}
-use Rattle.c_parser.specs.declared.symbols.Symbol.TheVariants as s
-use Rattle.c_parser.specs.declared.tree.Piece.{Piece}
+use Rattle.c_lexer.specs.Input.{symbol, piece, start, after}
 use Rattle.c_parser.specs.declared.tree.Value.{Value, roll-Value}
 use Rattle.c_parser.specs.declared.tree.Arms.{Arms, roll-Arms}
 use Rattle.c_parser.specs.declared.tree.Or.{Or, roll-Or}
@@ -27,7 +28,6 @@ use Rattle.c_parser.specs.declared.tree.UnarySign.TheVariants as un
 use Rattle.c_parser.specs.declared.tree.Primary.{Primary}
 use Rattle.c_parser.specs.declared.tree.Primary.TheVariants as pri
 use Rattle.c_parser.specs.declared.tree.Target.{Target, roll-Target}
-use Rattle.c_parser.specs.Input.{symbol, piece, start, after}
 
 -- ---- phrases: the tokens from one place of a text up to another
 

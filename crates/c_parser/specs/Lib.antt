@@ -1,6 +1,3 @@
-pub mod Symbols
-pub mod Input
-pub mod Cursor
 pub mod Values
 pub mod Nests
 pub mod Statements
@@ -8,4 +5,3 @@ pub mod Grammar
 pub mod Derivations
 pub mod Prefixes
 pub mod Regions
-pub mod Stops

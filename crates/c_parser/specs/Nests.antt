@@ -2,11 +2,11 @@
 use Rattle.std.specs.Prelude.{ℕ, ◌<◌, List, Result}
 use Rattle.std.specs.declared.alloc.Global.{Global}
 use denote.Ref.{MutBor}
+use Rattle.c_lexer.specs.declared.stops.Stop.{Stop}
 use Rattle.c_lexer.specs.Readings.{Reading}
-use Rattle.c_parser.specs.declared.stops.Stop.{Stop}
+use Rattle.c_lexer.specs.Input.{Reads}
 use Rattle.c_parser.specs.declared.tree.Unary.{Unary}
 use Rattle.c_parser.specs.declared.tree.UnarySign.{UnarySign}
-use Rattle.c_parser.specs.Input.{Reads}
 use Rattle.c_parser.specs.Values.{unary, below}
 
 pub record Nests (limit : ℕ) (pre : Global → MutBor Reading → ℕ → List UnarySign → Type 0)

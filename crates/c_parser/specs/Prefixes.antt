@@ -1,17 +1,18 @@
 -- The tokens with which a text begins, and what stands among them.
-use Rattle.std.specs.Prelude.{◌≡◌, ◌⊎◌, ◌≤◌, ℕ, zero, suc, ◌+◌, Bool, true, false, List, Option, Some, None, Ok, Err}
+use Rattle.std.specs.Prelude.{◌≡◌, ◌⊎◌, ◌≤◌, ℕ, zero, suc, ◌+◌, true, List, Option, Some, None, Ok, Err}
 use Rattle.suite_base.specs.declared.places.Place.{Place}
 use Rattle.suite_base.specs.declared.refusals.Refusal.{Refusal}
 use Rattle.suite_base.specs.declared.refusals.Refusal.TheVariants.{BadToken, NumberTooLarge, BadSyntax, TooDeep}
 use Rattle.c_lexer.specs.declared.tokens.TokenKind.TheVariants as kind
+use Rattle.c_lexer.specs.declared.symbols.Symbol.{Symbol}
+use Rattle.c_lexer.specs.declared.symbols.Symbol.TheVariants as s
 use Rattle.c_lexer.specs.Readings.{Reading, Lexeme, slice, next}
 use Rattle.c_lexer.specs.Readings as lexer
-use Rattle.c_parser.specs.Symbols.{is_too_large}
-use Rattle.c_parser.specs.declared.symbols.Symbol.{Symbol}
-use Rattle.c_parser.specs.declared.symbols.Symbol.TheVariants as s
-use Rattle.c_parser.specs.Input.{here, symbol, piece, after}
+use Rattle.c_lexer.specs.Symbols.{is_too_large, is_sound}
+use Rattle.c_lexer.specs.Input.{here, symbol, piece, after}
+use Rattle.c_lexer.specs.Pieces.{bytes_of}
 use Rattle.c_parser.specs.declared.tree.Node.{Node}
-use Rattle.c_parser.specs.Derivations.{bytes_of, Derived}
+use Rattle.c_parser.specs.Derivations.{Derived}
 
 -- where a text is read on behind so many tokens
 abbrev pub later : ℕ → Reading → Reading
@@ -20,19 +21,12 @@ later (suc k) r = after (later k r)
 
 -- the next token of two texts is the same, wherever it stands
 abbrev pub SameNext : Reading → Reading → Type 0
-SameNext r x = (symbol r ≡ symbol x) × (bytes_of r (piece r) ≡ bytes_of x (piece x))
+SameNext r x = (symbol r ≡ symbol x) × (bytes_of r.text (piece r) ≡ bytes_of x.text (piece x))
 
 -- two texts begin with the same tokens, so many of them
 abbrev pub SameTokens : ℕ → Reading → Reading → Type 0
 SameTokens zero r x = Unit {0}
 SameTokens (suc k) r x = SameTokens k r x × SameNext (later k r) (later k x)
-
--- a token of the grammar: a place without a token is none, nor is an integer outside the range, nor the end
-abbrev pub is_sound : Symbol → Bool
-is_sound s.End = false
-is_sound s.Bad = false
-is_sound s.TooLarge = false
-is_sound _ = true
 
 -- so many tokens of the grammar come next
 abbrev pub Sound : ℕ → Reading → Type 0

@@ -3,12 +3,12 @@ use Rattle.std.specs.Prelude.{◌≡◌, ℕ, List, take, Result, Ok, Err}
 use Rattle.suite_base.specs.declared.refusals.Fail.{Fail}
 use Rattle.suite_base.specs.declared.refusals.Fail.TheVariants as fail
 use Rattle.c_lexer.specs.declared.regions.Span.{Span}
+use Rattle.c_lexer.specs.declared.stops.Stop.{Stop}
+use Rattle.c_lexer.specs.declared.stops.Stop.TheVariants.{Refused}
 use Rattle.c_lexer.specs.Readings.{Reading}
-use Rattle.c_parser.specs.declared.stops.Stop.{Stop}
-use Rattle.c_parser.specs.declared.stops.Stop.TheVariants.{Refused}
+use Rattle.c_lexer.specs.Input.{Outcome}
 use Rattle.c_parser.specs.declared.tree.Node.{Node}
 use Rattle.c_parser.specs.declared.tree.Region.{Region}
-use Rattle.c_parser.specs.Input.{Outcome}
 use Rattle.c_parser.specs.Statements.{region}
 use Rattle.c_parser.specs.Derivations.{Derived}
 use Rattle.c_parser.specs.Prefixes.{HasCause}

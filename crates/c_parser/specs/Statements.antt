@@ -1,13 +1,11 @@
 -- Statements: one rule for each production of the grammar. The numbers are those of the nests and of the loops
 -- that may still be opened.
-use Rattle.std.specs.Prelude.{ℕ, zero, suc, Bool, true, false, if◌then◌else◌, ◌==◌, List, [], ◌∷◌, ◌++◌, Option, Some, None, Ok, Err}
-use Rattle.std.specs.Str.{bytes_eq}
-use Rattle.suite_base.specs.declared.refusals.Refusal.TheVariants.{TooDeep}
-use Rattle.c_lexer.specs.Readings.{Reading, slice}
-use Rattle.c_parser.specs.declared.stops.Stop.TheVariants.{Refused}
-use Rattle.c_parser.specs.declared.symbols.Symbol.{Symbol}
-use Rattle.c_parser.specs.declared.symbols.Symbol.TheVariants as s
-use Rattle.c_parser.specs.declared.tree.Piece.{Piece}
+use Rattle.std.specs.Prelude.{ℕ, zero, suc, Bool, true, false, if◌then◌else◌, List, [], ◌∷◌, ◌++◌, Option, Some, None}
+use Rattle.c_lexer.specs.declared.symbols.Symbol.{Symbol}
+use Rattle.c_lexer.specs.declared.symbols.Symbol.TheVariants as s
+use Rattle.c_lexer.specs.declared.pieces.Piece.{Piece}
+use Rattle.c_lexer.specs.Symbols.{same_symbol}
+use Rattle.c_lexer.specs.Input.{Parser, ◌>>=◌, ◌>>◌, ◌<$>◌, pure, refuse, peek, position, take_token, eat, expect, open_nest, left, same_name, open_loop}
 use Rattle.c_parser.specs.declared.tree.Rel.{Rel}
 use Rattle.c_parser.specs.declared.tree.Rel.TheVariants as rl
 use Rattle.c_parser.specs.declared.tree.Step.{Step}
@@ -22,8 +20,6 @@ use Rattle.c_parser.specs.declared.tree.Branch.{roll-Branch}
 use Rattle.c_parser.specs.declared.heads.Head.{Head}
 use Rattle.c_parser.specs.declared.tree.Sum.{Sum}
 use Rattle.c_parser.specs.declared.tree.Value.{Value}
-use Rattle.c_parser.specs.Symbols.{same_symbol}
-use Rattle.c_parser.specs.Input.{Parser, ◌>>=◌, ◌>>◌, ◌<$>◌, pure, refuse, peek, position, take_token, eat, expect, open_nest, here, left, sees, piece, after}
 use Rattle.c_parser.specs.Values.{below, value, target, rel_sign}
 
 -- ---- what stands between the rules of values
@@ -36,18 +32,6 @@ assign_sign s.TimesAssign = Some sign.Times
 assign_sign s.DivideAssign = Some sign.Divide
 assign_sign s.RemainderAssign = Some sign.Remainder
 assign_sign _ = None
-
--- two pieces have the same bytes
-abbrev pub is_name : List ℕ → Piece → Piece → Bool
-is_name text a b = bytes_eq (slice text a.from a.to) (slice text b.from b.to)
-
--- the next token is the name that stands there
-unfoldable pub sees_name : Piece → Reading → Bool
-sees_name name r = if sees s.Name r then is_name r.text name (piece r) else false
-
--- takes that name, which has to come next
-unfoldable pub same_name : Piece → Parser (Unit {0})
-same_name name = λ r. if sees_name name r then Ok (tt, after r) else refuse r
 
 -- a comparison goes upwards or downwards
 abbrev pub is_upward : Rel → Bool
@@ -134,10 +118,6 @@ assign nests = do
   pure (record { body = record { from = from; to = to }; target = found; sign = mark; value = right })
 
 -- ---- the rules, over those of a statement in one nest more, and of a statement in one loop more
-
--- the next token opens a loop, of which so many may still be opened
-unfoldable pub open_loop : ℕ → Parser (Unit {0})
-open_loop loops = λ r. if loops == 0 then Err (Refused (TooDeep (here r))) else Ok (tt, r)
 
 abbrev pub begins_statement : Symbol → Bool
 begins_statement s.For = true

@@ -1,9 +1,11 @@
 -- Values: one rule for each production of the grammar, from the least binding to the most. The number is that of
 -- the nests that may still be opened.
 use Rattle.std.specs.Prelude.{ℕ, zero, suc, if◌then◌else◌, List, [], ◌∷◌, ◌++◌, Option, Some, None}
-use Rattle.c_parser.specs.declared.symbols.Symbol.{Symbol}
-use Rattle.c_parser.specs.declared.symbols.Symbol.TheVariants as s
-use Rattle.c_parser.specs.declared.tree.Piece.{Piece}
+use Rattle.c_lexer.specs.declared.symbols.Symbol.{Symbol}
+use Rattle.c_lexer.specs.declared.symbols.Symbol.TheVariants as s
+use Rattle.c_lexer.specs.declared.pieces.Piece.{Piece}
+use Rattle.c_lexer.specs.Input.{Parser, ◌>>=◌, ◌>>◌, ◌<$>◌, pure, refuse, peek, position, take_token, eat, expect, open_nest, left}
+use Rattle.c_lexer.specs.Symbols.{same_symbol}
 use Rattle.c_parser.specs.declared.tree.Value.{Value, roll-Value}
 use Rattle.c_parser.specs.declared.tree.Arms.{Arms, roll-Arms}
 use Rattle.c_parser.specs.declared.tree.Or.{Or, roll-Or}
@@ -26,8 +28,6 @@ use Rattle.c_parser.specs.declared.tree.UnarySign.TheVariants as un
 use Rattle.c_parser.specs.declared.tree.Primary.{Primary}
 use Rattle.c_parser.specs.declared.tree.Primary.TheVariants as pri
 use Rattle.c_parser.specs.declared.tree.Target.{Target, roll-Target}
-use Rattle.c_parser.specs.Input.{Parser, ◌>>=◌, ◌>>◌, ◌<$>◌, pure, refuse, peek, position, take_token, eat, expect, open_nest, left}
-use Rattle.c_parser.specs.Symbols.{same_symbol}
 
 -- ---- signs
 

@@ -1,16 +1,13 @@
 //! The head of a loop, and the signs between the rules of statements.
 
 ghost use Rattle.std.specs.Prelude.{◌≡◌, ◌<◌, OnOk};
-ghost use Rattle.c_parser.specs.Input.{Reads};
-ghost use Rattle.c_parser.specs.Input as input;
+ghost use Rattle.c_lexer.specs.Input.{Reads};
 ghost use Rattle.c_parser.specs.Statements as spec;
 
 use crate::signs::rel_sign;
-use crate::stops::Stop;
-use crate::symbols::{Symbol, same_symbol};
-use crate::tokens::Tokens;
-use crate::tree::{AssignSign, Piece, Rel, Step, Sum};
+use crate::tree::{AssignSign, Rel, Step, Sum};
 use crate::values::inner_sum;
+use c_lexer::{Piece, Stop, Symbol, Tokens, same_symbol};
 use std::alloc::Global;
 
 /// `(name = start; name rel bound; step)`, where `step_at` is the place of the step's first byte.

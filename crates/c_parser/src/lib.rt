@@ -6,15 +6,12 @@ mod regions;
 mod rooms;
 mod signs;
 mod statements;
-mod stops;
-mod symbols;
-mod tokens;
 mod tree;
 mod values;
 
+pub use c_lexer::Piece;
 pub use regions::parse_region;
 pub use tree::{
-    And, Arms, Assign, AssignSign, Branch, Compare, Equal, EqualSign, Loop, Node, Or, Piece,
-    Primary, Product, ProductSign, Region, Rel, Step, Sum, SumSign, Target, Unary, UnarySign,
-    Value,
+    And, Arms, Assign, AssignSign, Branch, Compare, Equal, EqualSign, Loop, Node, Or, Primary,
+    Product, ProductSign, Region, Rel, Step, Sum, SumSign, Target, Unary, UnarySign, Value,
 };

@@ -5,9 +5,8 @@ ghost use Rattle.c_lexer.specs.Places.{place_at};
 ghost use Rattle.c_parser.specs.Regions as spec;
 
 use crate::statements::region;
-use crate::tokens::Tokens;
 use crate::tree::Region;
-use c_lexer::{Lexer, Span};
+use c_lexer::{Lexer, Span, Tokens};
 use std::alloc::Global;
 use suite_base::Fail;
 

@@ -3,8 +3,8 @@
 ghost use Rattle.std.specs.Prelude.{◌≡◌};
 ghost use Rattle.c_parser.specs.Values as spec;
 
-use crate::symbols::Symbol;
 use crate::tree::{EqualSign, ProductSign, Rel, SumSign, UnarySign};
+use c_lexer::Symbol;
 
 pub fn equal_sign(symbol: Symbol) -> Option<EqualSign>
     ensures { result ≡ spec.equal_sign symbol }

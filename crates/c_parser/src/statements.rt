@@ -1,15 +1,13 @@
 //! Statements: one function for each production of the grammar.
 
 ghost use Rattle.std.specs.Prelude.{◌≡◌, ◌<◌, ◌≤◌, ◌^◌};
-ghost use Rattle.c_parser.specs.Input.{Reads};
+ghost use Rattle.c_lexer.specs.Input.{Reads};
 ghost use Rattle.c_parser.specs.Statements as spec;
 
 use crate::heads::{assigned, loop_head, open_round};
-use crate::stops::Stop;
-use crate::symbols::{Symbol, same_symbol};
-use crate::tokens::Tokens;
-use crate::tree::{Assign, Branch, Loop, Node, Piece};
+use crate::tree::{Assign, Branch, Loop, Node};
 use crate::values::{inner_value, target, value};
+use c_lexer::{Piece, Stop, Symbol, Tokens, same_symbol};
 use sqlite_items::{Boxed, Items};
 use std::alloc::Global;
 use suite_base::List;

@@ -1,5 +1,6 @@
 //! The tree of a region. Names, numbers and bodies in it are spans of the source.
 
+use c_lexer::Piece;
 use sqlite_items::{Boxed, Items};
 use suite_base::List;
 
@@ -8,13 +9,6 @@ use suite_base::List;
 pub struct Region<'a> {
     pub source: &'a [u8],
     pub nodes: List<Node>,
-}
-
-/// The bytes of the source from `from` up to `to`.
-#[derive(Clone, Copy, Debug, PartialEq, Eq)]
-pub struct Piece {
-    pub from: usize,
-    pub to: usize,
 }
 
 /// A statement.

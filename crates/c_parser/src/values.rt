@@ -4,19 +4,17 @@
 //! which is a parameter, so that each production is proved by itself.
 
 ghost use Rattle.std.specs.Prelude.{◌≡◌, ◌<◌, ◌^◌, []};
-ghost use Rattle.c_parser.specs.Input.{Reads};
+ghost use Rattle.c_lexer.specs.Input.{Reads};
 ghost use Rattle.c_parser.specs.Values as spec;
 ghost use Rattle.c_parser.specs.Nests.{Nests};
 
 use crate::rooms::push_item;
 use crate::signs::{equal_sign, product_sign, rel_sign, sum_sign, unary_sign};
-use crate::stops::Stop;
-use crate::symbols::{Symbol, same_symbol};
-use crate::tokens::Tokens;
 use crate::tree::{
-    And, Arms, Compare, Equal, EqualSign, Or, Piece, Primary, Product, ProductSign, Rel, Sum,
-    SumSign, Target, Unary, UnarySign, Value,
+    And, Arms, Compare, Equal, EqualSign, Or, Primary, Product, ProductSign, Rel, Sum, SumSign,
+    Target, Unary, UnarySign, Value,
 };
+use c_lexer::{Piece, Stop, Symbol, Tokens, same_symbol};
 use sqlite_items::{Boxed, Items};
 use std::alloc::Global;
 use suite_base::List;

@@ -4,11 +4,14 @@ use Rattle.std.specs.Prelude.{codes}
 use Rattle.std.specs.List.{list_all}
 use Rattle.c_lexer.specs.declared.tokens.TokenKind.TheVariants as kind
 use Rattle.c_lexer.specs.declared.regions.Span.{Span}
+use Rattle.c_lexer.specs.declared.symbols.Symbol.TheVariants as s
+use Rattle.c_lexer.specs.declared.pieces.Piece.{Piece}
 use Rattle.c_lexer.specs.Tokens.{gap}
 use Rattle.c_lexer.specs.Readings.{Reading, slice}
 use Rattle.c_lexer.specs.TokenForms.{is_name}
-use Rattle.c_parser.specs.declared.symbols.Symbol.TheVariants as s
-use Rattle.c_parser.specs.declared.tree.Piece.{Piece}
+use Rattle.c_lexer.specs.Input.{symbol, start, after}
+use Rattle.c_lexer.specs.Symbols.{is_sound}
+use Rattle.c_lexer.specs.Pieces.{bytes_of}
 use Rattle.c_parser.specs.declared.tree.Step.{Step}
 use Rattle.c_parser.specs.declared.tree.Step.TheVariants as st
 use Rattle.c_parser.specs.declared.tree.Rel.{Rel}
@@ -22,8 +25,6 @@ use Rattle.c_parser.specs.declared.tree.Loop.{out-roll-Loop}
 use Rattle.c_parser.specs.declared.tree.Branch.{out-roll-Branch, roll-Branch}
 use Rattle.c_parser.specs.declared.heads.Head.{Head}
 use Rattle.c_parser.specs.declared.tree.Value.{Value}
-use Rattle.c_parser.specs.Input.{symbol, start, after}
-use Rattle.c_parser.specs.Prefixes.{is_sound}
 use Rattle.c_parser.specs.Statements.{loop_of, branch_of}
 use Rattle.c_parser.specs.Grammar.{Phrase, ◌then◌, empty, none, token, word, begins, each, nest, rel_token, IsTarget, IsValue, nested}
 use Rattle.c_parser.specs.Grammar as g
@@ -31,7 +32,7 @@ use Rattle.c_parser.specs.Derivations as d
 use Rattle.c_parser.specs.Derivations.{IsStatement, level, statement, Derived}
 use Rattle.c_parser.specs.Regions.{IsRegion, reading_at}
 use Rattle.scop_core.specs.Printable.{is_body_line}
-use Rattle.region_trees.specs.Terms.{order_of, bytes_of, sum_of, value_of}
+use Rattle.region_trees.specs.Terms.{order_of, sum_of, value_of}
 use Rattle.region_trees.specs.Statements.{Statement, Loop, Branch, NoStatements, Next, assignment_of, step_of, statement_of, statements_of}
 use Rattle.region_trees.specs.Layers.{node_layer, statement_is, loop_is, other_of, branch_is}
 use Rattle.printable_regions.specs.Sound as sound

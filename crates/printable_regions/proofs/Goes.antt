@@ -1,11 +1,10 @@
 -- Phrases of the grammar go from place to place of a text, token by token.
 use Rattle.std.proofs.Common.{◌≡◌, ℕ, true, if◌then◌else◌, List, [], ◌∷◌, Option, Some, None, Result, Ok, Err, refl, sym, ◌∙◌, ap, subst}
+use Rattle.c_lexer.specs.declared.symbols.Symbol.{Symbol}
+use Rattle.c_lexer.specs.declared.pieces.Piece.{Piece}
 use Rattle.c_lexer.specs.Readings.{Reading, Lexeme, next, slice}
-use Rattle.c_parser.specs.declared.symbols.Symbol.{Symbol}
-use Rattle.c_parser.specs.declared.tree.Piece.{Piece}
-use Rattle.c_parser.specs.Symbols.{symbol_of}
-use Rattle.c_parser.specs.Input.{symbol, symbol_from, start, start_from, behind, behind_from, after, piece}
-use Rattle.c_parser.specs.Prefixes.{is_sound}
+use Rattle.c_lexer.specs.Symbols.{symbol_of, is_sound}
+use Rattle.c_lexer.specs.Input.{symbol, symbol_from, start, start_from, behind, behind_from, after, piece}
 use Rattle.c_parser.specs.Grammar.{Phrase, ◌then◌, token, word, signed, others, each}
 use Rattle.printable_regions.proofs.Clean.{Path, stop, token as step}
 

@@ -3,7 +3,7 @@ use Rattle.std.proofs.Common.{◌≡◌, ℕ, zero, suc, List, [], ◌∷◌, �
 use Rattle.std.specs.Prelude.{cond, bytes_eq}
 use Rattle.std.specs.List.{list_all}
 use Rattle.c_lexer.specs.TokenForms.{is_name}
-use Rattle.c_parser.specs.Symbols.{operator_names}
+use Rattle.c_lexer.specs.Symbols.{operator_names}
 use Rattle.scop_core.specs.Printable.{is_body_line}
 use Rattle.clan_extract.specs.Regions.{is_among, without, first_occurrences}
 use Rattle.clan_extract.specs.Names.{Role, Function, Occurrence, is_parameter, is_array_role, role_of, names_with, parameters_in, arrays_in}

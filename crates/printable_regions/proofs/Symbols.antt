@@ -3,16 +3,15 @@ use Rattle.std.proofs.Common.{◌≡◌, ℕ, zero, suc, ◌+◌, ◌-◌, ◌�
 use Rattle.std.proofs.lemmas.List.{length-take}
 use Rattle.c_lexer.specs.declared.tokens.TokenKind.{TokenKind}
 use Rattle.c_lexer.specs.declared.tokens.TokenKind.TheVariants as kind
+use Rattle.c_lexer.specs.declared.symbols.Symbol.{Symbol}
+use Rattle.c_lexer.specs.declared.symbols.Symbol.TheVariants as s
+use Rattle.c_lexer.specs.declared.pieces.Piece.{Piece}
 use Rattle.c_lexer.specs.Readings.{Reading, Lexeme, next, slice}
 use Rattle.c_lexer.specs.TokenForms.{is_name, is_token_of}
+use Rattle.c_lexer.specs.Symbols.{symbol_of, is_too_large, sign_symbol, single, operation, assigned, doubled, is_sound}
+use Rattle.c_lexer.specs.Input.{symbol, piece}
+use Rattle.c_lexer.specs.Pieces.{bytes_of}
 use Rattle.c_lexer.proofs.TokenLaws.{tokens_longest}
-use Rattle.c_parser.specs.declared.symbols.Symbol.{Symbol}
-use Rattle.c_parser.specs.declared.symbols.Symbol.TheVariants as s
-use Rattle.c_parser.specs.declared.tree.Piece.{Piece}
-use Rattle.c_parser.specs.Symbols.{symbol_of, is_too_large, sign_symbol, single, operation, assigned, doubled}
-use Rattle.c_parser.specs.Input.{symbol, piece}
-use Rattle.c_parser.specs.Prefixes.{is_sound}
-use Rattle.region_trees.specs.Terms.{bytes_of}
 use Rattle.printable_regions.proofs.Scans.{to_number}
 use Rattle.printable_regions.proofs.Clean.{token_is}
 use Rattle.printable_regions.proofs.BodyLines.{same_slice}

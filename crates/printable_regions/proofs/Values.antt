@@ -1,10 +1,14 @@
 -- What is derived to a value goes along a path, and its names are names of C.
 use Rattle.std.proofs.Common.{◌≡◌, inl, inr, ℕ, zero, suc, Bool, true, ◌&&◌, List, [], ◌∷◌, Option, refl, sym, ◌∙◌, ap, subst}
 use Rattle.std.specs.List.{list_all}
+use Rattle.c_lexer.specs.declared.symbols.Symbol.{Symbol}
+use Rattle.c_lexer.specs.declared.symbols.Symbol.TheVariants as s
+use Rattle.c_lexer.specs.declared.pieces.Piece.{Piece}
 use Rattle.c_lexer.specs.Readings.{Reading}
-use Rattle.c_parser.specs.declared.symbols.Symbol.{Symbol}
-use Rattle.c_parser.specs.declared.symbols.Symbol.TheVariants as s
-use Rattle.c_parser.specs.declared.tree.Piece.{Piece}
+use Rattle.c_lexer.specs.Input.{start}
+use Rattle.c_lexer.specs.TokenForms.{is_name}
+use Rattle.c_lexer.specs.Symbols.{is_sound}
+use Rattle.c_lexer.specs.Pieces.{bytes_of}
 use Rattle.c_parser.specs.declared.tree.Value.{Value, roll-Value, out-roll-Value}
 use Rattle.c_parser.specs.declared.tree.Arms.{Arms, roll-Arms, out-roll-Arms}
 use Rattle.c_parser.specs.declared.tree.Or.{Or, roll-Or, out-roll-Or}
@@ -27,13 +31,10 @@ use Rattle.c_parser.specs.declared.tree.UnarySign.TheVariants as un
 use Rattle.c_parser.specs.declared.tree.Primary.{Primary}
 use Rattle.c_parser.specs.declared.tree.Primary.TheVariants as pri
 use Rattle.c_parser.specs.declared.tree.Target.{Target, roll-Target, out-roll-Target}
-use Rattle.c_parser.specs.Input.{start}
-use Rattle.c_parser.specs.Prefixes.{is_sound}
 use Rattle.c_parser.specs.Grammar as g
 use Rattle.c_parser.specs.Grammar.{Phrase, ◌then◌, empty, none, token, word, signed, others, separated, each, nest, equal_token, rel_token, sum_token, product_token, unary_token, Forms, no_forms, IsTarget, IsPrimary, IsUnary, IsProduct, IsSum, IsCompare, IsEqual, IsAnd, IsOr, IsArms, IsValue, forms, nested}
-use Rattle.region_trees.specs.Terms.{Operation, Conjunction, Disjunction, Term, Joined, Located, Element, Pair, of_rel, of_equal, of_sum, of_product, all_signed, bytes_of, sum_of, value_of, target_of, product_of, unary_of, primary_of, compare_of, equal_of, and_of, or_of}
+use Rattle.region_trees.specs.Terms.{Operation, Conjunction, Disjunction, Term, Joined, Located, Element, Pair, of_rel, of_equal, of_sum, of_product, all_signed, sum_of, value_of, target_of, product_of, unary_of, primary_of, compare_of, equal_of, and_of, or_of}
 use Rattle.region_trees.specs.Layers.{joined_by, all_by, some_by, terms_by, term_of_sum, sum_is, product_is, unary_is, primary_layer, primary_is, target_is, compare_is, equal_is, and_is, or_is, arms_is, with_arms, value_is}
-use Rattle.c_lexer.specs.TokenForms.{is_name}
 use Rattle.printable_regions.specs.Sound.{is_named, are_named}
 use Rattle.printable_regions.proofs.Bytes.{and_first, and_second, both_hold}
 use Rattle.printable_regions.proofs.Goes.{Goes, stays, both_go, this_goes, word_goes}

@@ -1,12 +1,13 @@
 -- The layers of loops and conditions at a place of the walk.
 use Rattle.std.proofs.Common.{◌≡◌, ℕ, List, Bool, true, false, subst}
+use Rattle.c_lexer.specs.Pieces.{bytes_of}
 use Rattle.c_parser.specs.declared.tree.Loop.{Loop, out-Loop}
 use Rattle.c_parser.specs.declared.tree.Value.{Value}
 use Rattle.clan_rows.specs.Layers.{LayerData}
 use Rattle.clan_walk.specs.Walk.{State}
 use Rattle.region_trees.specs.Regions.{condition_of}
 use Rattle.region_trees.specs.Statements.{step_of}
-use Rattle.region_trees.specs.Terms.{bytes_of, order_of, sum_of, value_of}
+use Rattle.region_trees.specs.Terms.{order_of, sum_of, value_of}
 use Rattle.region_forms.specs.declared.scopes.Scope.{Scope}
 use Rattle.region_forms.specs.Bounds.{IsLoop, IsLoopAt}
 use Rattle.region_forms.specs.Conditions.{IsTest, IsTestAt}

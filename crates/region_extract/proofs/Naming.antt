@@ -8,6 +8,7 @@ use Rattle.scop_core.proofs.Assemblies.{item_drop}
 use Rattle.scop_data.specs.declared.affines.Affine.{Affine}
 use Rattle.scop_data.specs.declared.accesses.AccessKind.{AccessKind}
 use Rattle.scop_data.specs.declared.accesses.AccessKind.TheVariants.{Read}
+use Rattle.c_lexer.specs.Pieces.{bytes_of}
 use Rattle.c_parser.specs.declared.tree.Sum.{Sum}
 use Rattle.c_parser.specs.declared.tree.Target.{Target, out-Target}
 use Rattle.clan_extract.specs.Forms.{is_affine}
@@ -17,7 +18,7 @@ use Rattle.clan_rows.specs.Contents.{made}
 use Rattle.clan_rows.specs.Fitting.{checked_form}
 use Rattle.clan_walk.specs.Places.{IsSizedForm}
 use Rattle.clan_walk.specs.Walk.{State, accessed, read, referred}
-use Rattle.region_trees.specs.Terms.{Element, More, NoTerms, Term, Terms, bytes_of, sum_of, target_of}
+use Rattle.region_trees.specs.Terms.{Element, More, NoTerms, Term, Terms, sum_of, target_of}
 use Rattle.region_trees.specs.Layers.{target_is, terms_by}
 use Rattle.region_trees.specs.Regions.{expression_of, passed, reference_of, references_of, subscripts_of}
 use Rattle.region_forms.specs.Evaluations.{EvaluationData, HasShape, IsValue, named_of}

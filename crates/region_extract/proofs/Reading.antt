@@ -5,9 +5,9 @@ use Rattle.std.proofs.lemmas.List.{take_all, take_more, drop_all}
 use Rattle.std.proofs.lemmas.List.Elements.{filter-append}
 use Rattle.scop_core.proofs.Assemblies.{item_drop}
 use Rattle.scop_data.specs.declared.accesses.AccessKind.TheVariants.{Read}
+use Rattle.c_lexer.specs.declared.pieces.Piece.{Piece}
 use Rattle.c_parser.specs.declared.tree.Primary.{Primary, out-Primary}
 use Rattle.c_parser.specs.declared.tree.Primary.TheVariants as pri
-use Rattle.c_parser.specs.declared.tree.Piece.{Piece}
 use Rattle.c_parser.specs.declared.tree.Target.{Target}
 use Rattle.c_parser.specs.declared.tree.Unary.{Unary, out-Unary}
 use Rattle.c_parser.specs.declared.tree.UnarySign.{UnarySign}

@@ -5,6 +5,7 @@ use Rattle.std.proofs.lemmas.List.{drop_all}
 use Rattle.suite_base.proofs.LineCuts.{bool_tells}
 use Rattle.scop_core.proofs.Assemblies.{item_drop}
 use Rattle.scop_data.specs.declared.accesses.AccessKind.TheVariants.{Write}
+use Rattle.c_lexer.specs.Pieces.{bytes_of}
 use Rattle.c_parser.specs.declared.tree.Assign.{Assign as AssignTree}
 use Rattle.c_parser.specs.declared.tree.Branch.{Branch as BranchTree, out-Branch}
 use Rattle.c_parser.specs.declared.tree.Loop.{Loop as LoopTree, out-Loop}
@@ -18,7 +19,7 @@ use Rattle.clan_walk.specs.declared.turns.Direction.{Direction}
 use Rattle.clan_walk.specs.Laws.{assignments, assignments_in}
 use Rattle.clan_walk.specs.Walk.{State, around, assigned, direction_by, entered_branch, entered_loop, is_open, left_branch, left_loop, read, referred, walked, walked_all}
 use Rattle.clan_walk.proofs.Kept.{walk_keeps_all, without_end}
-use Rattle.region_trees.specs.Terms.{Element, Located, Term, bytes_of, order_of, sum_of, value_of}
+use Rattle.region_trees.specs.Terms.{Element, Located, Term, order_of, sum_of, value_of}
 use Rattle.region_trees.specs.Statements.{Assignment as AssignmentOf, Block as BlockOf, Branch, Loop, Next, NoStatements, Statement, Statements, assignment_of, branch_of, loop_of, statement_of, statements_of, step_of}
 use Rattle.region_trees.specs.Layers.{branch_is, loop_is, node_layer, other_of, statement_is}
 use Rattle.region_trees.specs.Regions.{bound_of, condition_of, is_bound, is_start, is_step, limit_of, node_of, nodes_of, passed, reference_of, references_of, result_map2, start_of}

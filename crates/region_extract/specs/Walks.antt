@@ -3,6 +3,7 @@ use Rattle.std.specs.Prelude.{◌≡◌, ◌++◌, ◌&&◌, ◌||◌, ℕ, List
 use Rattle.scop_data.specs.declared.affines.Affine.{Affine}
 use Rattle.scop_data.specs.declared.accesses.AccessKind.{AccessKind}
 use Rattle.scop_data.specs.declared.accesses.AccessKind.TheVariants.{Read}
+use Rattle.c_lexer.specs.Pieces.{bytes_of}
 use Rattle.c_parser.specs.declared.tree.Loop.{Loop as LoopTree, out-Loop}
 use Rattle.c_parser.specs.declared.tree.Node.{Node as Tree}
 use Rattle.clan_extract.specs.Regions.{Expression, Node, Nodes, Reference, array_references, is_among}
@@ -13,7 +14,7 @@ use Rattle.region_forms.specs.Bounds.{IsLoop}
 use Rattle.region_forms.specs.Conditions.{IsTest}
 use Rattle.region_trees.specs.Regions.{condition_of, node_of, nodes_of, reference_of, references_of, references_of_all, result_map2, subscripts_of}
 use Rattle.region_trees.specs.Statements.{Assignment, Block, Branch, Loop, Next, NoStatements, Statement, Statements, statement_of, statements_of, step_of}
-use Rattle.region_trees.specs.Terms.{Element, More, NoTerms, Pair, Term, Terms, bytes_of, order_of, sum_of}
+use Rattle.region_trees.specs.Terms.{Element, More, NoTerms, Pair, Term, Terms, order_of, sum_of}
 
 -- ---- accesses
 

@@ -1,7 +1,7 @@
 //! Spans of the source.
 
 ghost use Rattle.std.specs.Prelude.{◌≡◌};
-ghost use Rattle.region_trees.specs.Terms.{bytes_of};
+ghost use Rattle.c_lexer.specs.Pieces.{bytes_of};
 
 use c_parser::Piece;
 

@@ -2,7 +2,7 @@
 use Rattle.std.proofs.Common.{◌≡◌, ℕ, ◌+◌, ◌-◌, ◌*◌, ◌^◌, ◌≤◌, ◌<◌, Bool, true, false, cond, Some, None, List, [], ◌∷◌, length, drop, sym, ap, refl, arith, length-drop}
 use Rattle.std.proofs.lemmas.Bool.{ltb-true}
 use Rattle.std.specs.Prelude.{pos, nat_lt}
-use Rattle.c_parser.specs.Symbols.{value_from}
+use Rattle.c_lexer.specs.Symbols.{value_from}
 use Rattle.clan_rows.specs.Fitting.{in_range}
 
 grows : (value : ℕ) (digits : List ℕ) → value ≤ value_from value digits

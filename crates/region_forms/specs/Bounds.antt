@@ -1,7 +1,8 @@
 -- What the rows of a bound and the layer of a loop have to be. Nothing is asked where a term breaks the rules.
 use Rattle.std.specs.Prelude.{◌≡◌, ℕ, List, ℤ, neg_ℤ, unsigned_abs, nat_eq, Bool, true, false, cond, bytes_eq, codes, Option, Some, None}
+use Rattle.c_lexer.specs.declared.pieces.Piece.{Piece}
+use Rattle.c_lexer.specs.Pieces.{bytes_of}
 use Rattle.c_parser.specs.declared.tree.Loop.{Loop, out-Loop}
-use Rattle.c_parser.specs.declared.tree.Piece.{Piece}
 use Rattle.c_parser.specs.declared.tree.Sum.{Sum}
 use Rattle.c_parser.specs.declared.tree.Value.{Value}
 use Rattle.clan_extract.specs.Regions.{Comparison, Expression}
@@ -19,7 +20,7 @@ use Rattle.clan_rows.specs.Layers.{LayerData, loop_layer}
 use Rattle.clan_rows.specs.Pieces.{loop_of}
 use Rattle.region_trees.specs.Layers.{term_of_sum, terms_by}
 use Rattle.region_trees.specs.Statements.{step_of}
-use Rattle.region_trees.specs.Terms.{Call, Located, Term, bytes_of, order_of, sum_of, value_of}
+use Rattle.region_trees.specs.Terms.{Call, Located, Term, order_of, sum_of, value_of}
 use Rattle.region_trees.specs.Regions.{bound_of, divisor_of, expression_of, is_bound, is_start, is_step, option_map2}
 use Rattle.region_forms.specs.declared.bounds.Operator.{Operator}
 use Rattle.region_forms.specs.declared.bounds.Operator.TheVariants.{Both, Ceiling, Floor}

@@ -3,7 +3,8 @@
 ghost use Rattle.std.specs.Prelude.{◌≡◌, ◌||◌, IfOk};
 ghost use Rattle.clan_rows.specs.Contents.{AgreeInShape, made};
 ghost use Rattle.region_forms.specs.Evaluations as spec;
-ghost use Rattle.region_trees.specs.Terms.{Integer, bytes_of, number_of, target_of};
+ghost use Rattle.c_lexer.specs.Pieces.{bytes_of};
+ghost use Rattle.region_trees.specs.Terms.{Integer, number_of, target_of};
 
 use crate::numbers::integer;
 use crate::scopes::Scope;

@@ -1,7 +1,7 @@
 //! Integers by their digits.
 
 ghost use Rattle.std.specs.Prelude.{◌≡◌, pos};
-ghost use Rattle.c_parser.specs.Symbols.{value_from};
+ghost use Rattle.c_lexer.specs.Symbols.{value_from};
 ghost use Rattle.clan_rows.specs.Fitting.{in_range};
 
 use row_core::Coeff;

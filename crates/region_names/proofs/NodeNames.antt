@@ -3,7 +3,8 @@ use Rattle.std.proofs.Common.{◌≡◌, ℕ, List, [], ◌∷◌, ◌++◌, ref
 use Rattle.std.specs.Prelude.{true, false, length, Some, None}
 use Rattle.std.specs.List.{flat_map}
 use Rattle.std.proofs.lemmas.List.{append-nil}
-use Rattle.c_parser.specs.declared.tree.Piece.{Piece}
+use Rattle.c_lexer.specs.declared.pieces.Piece.{Piece}
+use Rattle.c_lexer.specs.Pieces.{bytes_of}
 use Rattle.c_parser.specs.declared.tree.Target.{out-Target}
 use Rattle.c_parser.specs.declared.tree.Assign.{Assign}
 use Rattle.c_parser.specs.declared.tree.Node.{Node, out-Node}
@@ -11,7 +12,7 @@ use Rattle.c_parser.specs.declared.tree.Node.TheVariants as node
 use Rattle.c_parser.specs.declared.tree.Branch.{Branch, out-Branch}
 use Rattle.c_parser.specs.declared.tree.Loop.{Loop, out-Loop}
 use Rattle.clan_extract.specs.Names.{ArrayOf}
-use Rattle.region_trees.specs.Terms.{Element, bytes_of, sum_of, value_of}
+use Rattle.region_trees.specs.Terms.{Element, sum_of, value_of}
 use Rattle.region_trees.specs.Statements.{Next, NoStatements, statement_of}
 use Rattle.region_trees.specs.Layers.{node_layer, statement_is, loop_is, branch_is, other_of, target_is, terms_by}
 use Rattle.region_trees.specs.Occurrences.{occurrence, occurrences_left, loop_name, occurrences_of, occurrences_of_all, occurrences_in, occurrences_in_all}

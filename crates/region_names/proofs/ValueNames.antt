@@ -3,7 +3,9 @@ use Rattle.std.proofs.Common.{◌≡◌, ℕ, suc, List, [], ◌∷◌, ◌++◌
 use Rattle.std.specs.Prelude.{Bool, true, cond, length, Some, None}
 use Rattle.std.specs.List.{flat_map}
 use Rattle.std.proofs.lemmas.List.{append-nil}
-use Rattle.c_parser.specs.declared.tree.Piece.{Piece}
+use Rattle.c_lexer.specs.declared.pieces.Piece.{Piece}
+use Rattle.c_lexer.specs.Symbols.{operator_names}
+use Rattle.c_lexer.specs.Pieces.{bytes_of}
 use Rattle.c_parser.specs.declared.tree.UnarySign.{UnarySign}
 use Rattle.c_parser.specs.declared.tree.EqualSign.{EqualSign}
 use Rattle.c_parser.specs.declared.tree.Rel.{Rel}
@@ -21,10 +23,9 @@ use Rattle.c_parser.specs.declared.tree.And.{And, out-And}
 use Rattle.c_parser.specs.declared.tree.Or.{Or, out-Or}
 use Rattle.c_parser.specs.declared.tree.Arms.{Arms, out-Arms}
 use Rattle.c_parser.specs.declared.tree.Primary.TheVariants as pri
-use Rattle.c_parser.specs.Symbols.{operator_names}
 use Rattle.clan_extract.specs.Names.{Function}
 use Rattle.clan_extract.specs.Regions.{is_among}
-use Rattle.region_trees.specs.Terms.{Operation, Conjunction, Disjunction, Term, Joined, Located, Element, Pair, of_rel, of_equal, of_sum, of_product, all_signed, bytes_of, sum_of, value_of, product_of, unary_of, primary_of, compare_of, equal_of, and_of, or_of}
+use Rattle.region_trees.specs.Terms.{Operation, Conjunction, Disjunction, Term, Joined, Located, Element, Pair, of_rel, of_equal, of_sum, of_product, all_signed, sum_of, value_of, product_of, unary_of, primary_of, compare_of, equal_of, and_of, or_of}
 use Rattle.region_trees.specs.Layers.{joined_by, all_by, some_by, terms_by, term_of_sum, with_arms, primary_layer, sum_is, product_is, unary_is, primary_is, target_is, compare_is, equal_is, and_is, or_is, arms_is, value_is}
 use Rattle.region_trees.specs.Occurrences.{count, occurrence, role_with, occurrences_of, occurrences_of_all}
 use Rattle.region_names.specs.Walks.{scope_of, value_names, or_names, and_names, equal_names, compare_names, sum_names, product_names, primary_names, argument_names, subscript_names}

@@ -1,7 +1,8 @@
 -- The occurrences of names in the trees of values.
 use Rattle.std.specs.Prelude.{ℕ, List, [], ◌∷◌, ◌++◌, map, length, Bool, true, cond, Some}
-use Rattle.c_parser.specs.Symbols.{operator_names}
-use Rattle.c_parser.specs.declared.tree.Piece.{Piece}
+use Rattle.c_lexer.specs.declared.pieces.Piece.{Piece}
+use Rattle.c_lexer.specs.Symbols.{operator_names}
+use Rattle.c_lexer.specs.Pieces.{bytes_of}
 use Rattle.c_parser.specs.declared.tree.Sum.{Sum}
 use Rattle.c_parser.specs.declared.tree.Value.{Value}
 use Rattle.c_parser.specs.declared.tree.Target.{Target, out-Target}
@@ -18,7 +19,7 @@ use Rattle.c_parser.specs.declared.tree.Branch.{Branch}
 use Rattle.c_parser.specs.declared.tree.Loop.{Loop}
 use Rattle.clan_extract.specs.Names.{Function, ArrayOf, Occurrence}
 use Rattle.clan_extract.specs.Regions.{is_among}
-use Rattle.region_trees.specs.Terms.{bytes_of, sum_of, value_of, target_of, product_of, primary_of, compare_of, equal_of, and_of, or_of}
+use Rattle.region_trees.specs.Terms.{sum_of, value_of, target_of, product_of, primary_of, compare_of, equal_of, and_of, or_of}
 use Rattle.region_trees.specs.Layers.{terms_by}
 use Rattle.region_trees.specs.Statements.{assignment_of, statement_of, statements_of, branch_of, loop_of}
 use Rattle.region_trees.specs.Occurrences.{occurrence, loop_name, role_with, occurrences_of, occurrences_of_all, occurrences_in, occurrences_in_all}

@@ -3,8 +3,8 @@
 ghost use Rattle.std.specs.Prelude.{◌≡◌, ◌∷◌, map, IfOk};
 ghost use Rattle.clan_extract.specs.Regions.{is_among};
 ghost use Rattle.region_trees.specs.Occurrences as occurs;
-ghost use Rattle.region_trees.specs.Terms.{bytes_of};
-ghost use Rattle.c_parser.specs.Symbols.{operator_names};
+ghost use Rattle.c_lexer.specs.Pieces.{bytes_of};
+ghost use Rattle.c_lexer.specs.Symbols.{operator_names};
 ghost use Rattle.region_names.specs.Roles.{given};
 ghost use Rattle.region_names.specs.Walks.{scope_of};
 

@@ -1,6 +1,7 @@
 -- The first fault of a term, of a list, and of a statement, by those of its parts.
 use Rattle.std.proofs.Common.{◌≡◌, refl, sym, ap, ◌∙◌, ℕ, List, [], ◌∷◌, ◌++◌, Bool, true, false, Option, Some, None, Result, Ok, Err}
 use Rattle.std.specs.Prelude.{cond}
+use Rattle.c_lexer.specs.Pieces.{bytes_of}
 use Rattle.c_parser.specs.declared.tree.UnarySign.{UnarySign}
 use Rattle.c_parser.specs.declared.tree.Sum.{Sum, out-Sum}
 use Rattle.c_parser.specs.declared.tree.Value.{Value}
@@ -13,7 +14,7 @@ use Rattle.c_parser.specs.declared.tree.And.{And, out-And}
 use Rattle.c_parser.specs.declared.tree.Or.{Or, out-Or}
 use Rattle.clan_extract.specs.Regions.{Expression, Reference}
 use Rattle.clan_extract.specs.Forms.{is_affine}
-use Rattle.region_trees.specs.Terms.{Operation, Conjunction, Disjunction, Term, Joined, Located, Element, of_rel, of_equal, of_sum, of_product, all_signed, bytes_of, sum_of, value_of, target_of, product_of, unary_of, primary_of, compare_of, equal_of, and_of, or_of}
+use Rattle.region_trees.specs.Terms.{Operation, Conjunction, Disjunction, Term, Joined, Located, Element, of_rel, of_equal, of_sum, of_product, all_signed, sum_of, value_of, target_of, product_of, unary_of, primary_of, compare_of, equal_of, and_of, or_of}
 use Rattle.region_trees.specs.Layers.{joined_by, all_by, some_by, terms_by, term_of_sum, sum_is, product_is, unary_is, target_is, compare_is, equal_is, and_is, or_is}
 use Rattle.region_trees.specs.Regions.{first_some, passed, result_map, result_map2, expression_of, subscripts_of, reference_of, references_of, references_of_all}
 use Rattle.region_rules.specs.Facts.{holds}

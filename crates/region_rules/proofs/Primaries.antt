@@ -1,10 +1,11 @@
 -- What each kind of operand has, and its first fault.
 use Rattle.std.proofs.Common.{◌≡◌, sym, ap, ◌∙◌, ℕ, List, [], ◌∷◌, Option}
-use Rattle.c_parser.specs.declared.tree.Piece.{Piece}
+use Rattle.c_lexer.specs.declared.pieces.Piece.{Piece}
+use Rattle.c_lexer.specs.Pieces.{bytes_of}
 use Rattle.c_parser.specs.declared.tree.Value.{Value}
 use Rattle.c_parser.specs.declared.tree.Primary.{Primary}
 use Rattle.c_parser.specs.declared.tree.Primary.TheVariants as pri
-use Rattle.region_trees.specs.Terms.{Call, Bracket, bytes_of, value_of, primary_of}
+use Rattle.region_trees.specs.Terms.{Call, Bracket, value_of, primary_of}
 use Rattle.region_trees.specs.Layers.{terms_by, primary_layer, primary_is}
 use Rattle.region_rules.specs.declared.facts.Facts.{Facts}
 use Rattle.region_rules.specs.Facts.{facts_of, bracketed}

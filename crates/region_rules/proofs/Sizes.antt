@@ -1,6 +1,6 @@
 -- The size of a number, digit by digit.
 use Rattle.std.proofs.Common.{◌≡◌, refl, sym, ap, ◌∙◌, ℕ, zero, suc, ◌+◌, ◌-◌, ◌*◌, ◌≤◌, List, [], ◌∷◌, arith}
-use Rattle.c_parser.specs.Symbols.{value_from}
+use Rattle.c_lexer.specs.Symbols.{value_from}
 use Rattle.region_rules.specs.declared.facts.Size.{Size}
 use Rattle.region_rules.specs.declared.facts.Size.TheVariants as size
 use Rattle.region_rules.specs.Facts.{size_of, size_with}

@@ -1,6 +1,7 @@
 -- The first fault of a statement, by those of its parts.
 use Rattle.std.proofs.Common.{◌≡◌, refl, sym, ap, ◌∙◌, ℕ, List, [], ◌∷◌, Bool, Option, Some, None, Result, Ok, Err}
 use Rattle.std.specs.Prelude.{cond, ℤ, unsigned_abs}
+use Rattle.c_lexer.specs.Pieces.{bytes_of}
 use Rattle.c_parser.specs.declared.tree.Sum.{Sum, out-Sum}
 use Rattle.c_parser.specs.declared.tree.Value.{Value}
 use Rattle.c_parser.specs.declared.tree.Node.{Node}
@@ -10,7 +11,7 @@ use Rattle.c_parser.specs.declared.tree.Loop.{Loop as LoopTree, out-Loop}
 use Rattle.clan_extract.specs.Regions.{Expression, Comparison, Condition, Node as Region, If, Nodes, NoNodes, Then}
 use Rattle.clan_extract.specs.Regions as region
 use Rattle.clan_extract.specs.Scops.{is_condition}
-use Rattle.region_trees.specs.Terms.{Located, order_of, bytes_of, sum_of, value_of}
+use Rattle.region_trees.specs.Terms.{Located, order_of, sum_of, value_of}
 use Rattle.region_trees.specs.Statements.{Statement, NoStatements, Next, step_of, statement_of, statements_of, branch_of, loop_of}
 use Rattle.region_trees.specs.Layers.{node_layer, other_of, sum_is, statement_is, loop_is, branch_is}
 use Rattle.region_trees.specs.Regions.{first_some, result_map2, for_of, condition_of, bound_of, passed, is_start, is_bound, is_step, start_of, limit_of, node_of, nodes_of}

@@ -1,8 +1,8 @@
 //! The bytes of a span, and the size of the number that digits stand for.
 
 ghost use Rattle.std.specs.Prelude.{◌≡◌, ◌-◌};
-ghost use Rattle.c_parser.specs.Symbols.{value_from};
-ghost use Rattle.region_trees.specs.Terms.{bytes_of};
+ghost use Rattle.c_lexer.specs.Symbols.{value_from};
+ghost use Rattle.c_lexer.specs.Pieces.{bytes_of};
 ghost use Rattle.region_rules.specs.Facts.{size_of, size_with};
 
 use crate::facts::Size;

@@ -1,7 +1,8 @@
 //! What the rules ask of the values in a tree.
 
 ghost use Rattle.std.specs.Prelude.{◌≡◌};
-ghost use Rattle.region_trees.specs.Terms.{Call, sum_of, value_of, product_of, unary_of, primary_of, compare_of, equal_of, and_of, or_of, bytes_of};
+ghost use Rattle.c_lexer.specs.Pieces.{bytes_of};
+ghost use Rattle.region_trees.specs.Terms.{Call, sum_of, value_of, product_of, unary_of, primary_of, compare_of, equal_of, and_of, or_of};
 ghost use Rattle.region_trees.specs.Layers.{terms_by};
 ghost use Rattle.region_rules.specs.Facts.{facts_of};
 ghost use Rattle.region_rules.specs.Facts as spec;

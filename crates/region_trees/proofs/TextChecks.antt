@@ -1,7 +1,9 @@
 -- Texts that the parser's rules read, and what their trees say.
 use Rattle.std.proofs.Common.{◌≡◌, refl, List, [], ◌∷◌, ℕ, ◌+◌, None, Ok}
 use Rattle.std.specs.Prelude.{codes, false, pos}
-use Rattle.c_parser.specs.declared.tree.Piece.{Piece}
+use Rattle.c_lexer.specs.declared.pieces.Piece.{Piece}
+use Rattle.c_lexer.specs.Input.{symbol, start, behind, here, after, piece, refusal, sees, after_if, expect, open_nest, sees_name, same_name, open_loop}
+use Rattle.c_lexer.specs.Symbols.{same_symbol, name_symbol}
 use Rattle.c_parser.specs.declared.tree.Rel.TheVariants as rl
 use Rattle.c_parser.specs.declared.tree.SumSign.{SumSign}
 use Rattle.c_parser.specs.declared.tree.SumSign.TheVariants as sm
@@ -25,10 +27,8 @@ use Rattle.c_parser.specs.declared.tree.Primary.TheOpen.{Primary-F}
 use Rattle.c_parser.specs.declared.tree.Primary.TheFolds.{fold-roll-Primary, fold-roll-And, fold-roll-Compare, fold-roll-Equal, fold-roll-Or, fold-roll-Product, fold-roll-Sum, fold-roll-Target, fold-roll-Unary, fold-roll-Value}
 use Rattle.c_parser.specs.declared.tree.Node.TheOpen.{Node-F}
 use Rattle.c_parser.specs.declared.tree.Node.TheFolds.{fold-roll-Node, fold-roll-Loop}
-use Rattle.c_parser.specs.Input.{symbol, start, behind, here, after, piece, refusal, sees, after_if, expect, open_nest}
-use Rattle.c_parser.specs.Symbols.{same_symbol, name_symbol}
 use Rattle.c_parser.specs.Values.{value, below, signed_from, separated_from, subscript, subscripts_from, subscripts, target, arguments, call, named, operator, bracket, primary, operand, unary, product_rest, product, sum_rest, sum, compare_rest, compare, equal_rest, equal, and_value, or_value, arms}
-use Rattle.c_parser.specs.Statements.{sees_name, same_name, rel, assigned, step_behind, step, open_round, head_rest, head, assign, open_loop, block_from, for_loop, branch, else_branch, if_branch, block_nodes, block, statement_rule, level, statement, inner, body, region_from, region}
+use Rattle.c_parser.specs.Statements.{rel, assigned, step_behind, step, open_round, head_rest, head, assign, block_from, for_loop, branch, else_branch, if_branch, block_nodes, block, statement_rule, level, statement, inner, body, region_from, region}
 use Rattle.clan_extract.specs.Regions.{IsLess}
 use Rattle.region_trees.specs.Terms.{Plus, Times, Integer, Named, Joined, NoTerms, More, Term}
 use Rattle.region_trees.specs.Statements.{NoStatements, Next, Loop, Assignment, statements_of}

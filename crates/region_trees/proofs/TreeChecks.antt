@@ -1,7 +1,7 @@
 -- Trees of the parser, and what they say.
 use Rattle.std.proofs.Common.{◌≡◌, List, [], ◌∷◌, ℕ, rules}
 use Rattle.std.specs.Prelude.{codes}
-use Rattle.c_parser.specs.declared.tree.Piece.{Piece}
+use Rattle.c_lexer.specs.declared.pieces.Piece.{Piece}
 use Rattle.c_parser.specs.declared.tree.SumSign.TheVariants as sm
 use Rattle.c_parser.specs.declared.tree.Sum.{Sum, roll-Sum}
 use Rattle.c_parser.specs.declared.tree.Product.{Product, roll-Product}

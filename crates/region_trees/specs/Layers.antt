@@ -1,6 +1,7 @@
 -- What each form of the tree says, by what the forms right below it say: so code that goes down a tree is proved a layer at a time.
 use Rattle.std.proofs.Common.{ap, ◌∙◌}
 use Rattle.std.specs.Prelude.{◌≡◌, refl, ℕ, List, [], ◌∷◌, map, Option, Some, None}
+use Rattle.c_lexer.specs.Pieces.{bytes_of}
 use Rattle.c_parser.specs.declared.tree.Sum.{Sum, out-Sum}
 use Rattle.c_parser.specs.declared.tree.Value.{Value, out-Value}
 use Rattle.c_parser.specs.declared.tree.Target.{Target, out-Target}
@@ -21,7 +22,7 @@ use Rattle.c_parser.specs.declared.tree.Branch.{Branch as BranchTree, out-Branch
 use Rattle.c_parser.specs.declared.tree.Loop.{Loop as LoopTree, out-Loop}
 use Rattle.c_parser.specs.declared.tree.Node.TheOpen.{Node-F}
 use Rattle.c_parser.specs.declared.tree.Node.TheFolds.{map-Node, fold_out-Node, fold_out-Branch, fold_out-Loop}
-use Rattle.region_trees.specs.Terms.{Operation, Conjunction, Disjunction, Term, Integer, Literal, Named, Call, Bracket, Joined, Choice, Terms, NoTerms, More, Located, Element, Pair, order_of, of_rel, of_equal, of_sum, of_product, terms, joined_from, located_from, all_from, all_joined, all_signed, chosen, bytes_of, number_of, primary_says, and_says, arms_says, compare_says, equal_says, or_says, product_says, sum_says, target_says, unary_says, value_says, sum_of, value_of, target_of, product_of, unary_of, primary_of, compare_of, equal_of, and_of, or_of, arms_of}
+use Rattle.region_trees.specs.Terms.{Operation, Conjunction, Disjunction, Term, Integer, Literal, Named, Call, Bracket, Joined, Choice, Terms, NoTerms, More, Located, Element, Pair, order_of, of_rel, of_equal, of_sum, of_product, terms, joined_from, located_from, all_from, all_joined, all_signed, chosen, number_of, primary_says, and_says, arms_says, compare_says, equal_says, or_says, product_says, sum_says, target_says, unary_says, value_says, sum_of, value_of, target_of, product_of, unary_of, primary_of, compare_of, equal_of, and_of, or_of, arms_of}
 use Rattle.region_trees.specs.Statements.{Statement, Loop, Branch, Block, Statements, NoStatements, Next, statements, if_any, step_of, assignment_of, node_says, branch_says, loop_says, statement_of, statements_of, branch_of, loop_of}
 
 -- ---- lists of trees

@@ -1,6 +1,6 @@
 -- The occurrences of names in statements, in the order of the text.
 use Rattle.std.specs.Prelude.{ℕ, zero, suc, List, [], ◌∷◌, ◌++◌, Bool, true, false, cond, Option, Some, None}
-use Rattle.c_parser.specs.Symbols.{operator_names}
+use Rattle.c_lexer.specs.Symbols.{operator_names}
 use Rattle.clan_extract.specs.Regions.{is_among}
 use Rattle.clan_extract.specs.Names.{Role, Function, ArrayOf, Iterator, Parameter, Occurrence}
 use Rattle.region_trees.specs.Terms.{Term, Integer, Literal, Named, Call, Bracket, Signed, Joined, Choice, Terms, NoTerms, More, Element}

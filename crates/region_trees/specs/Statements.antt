@@ -1,7 +1,8 @@
 -- Statements of terms: what the parser's trees of statements say.
 use Rattle.std.specs.Prelude.{ℕ, zero, suc, ◌-◌, List, [], ◌∷◌, ◌++◌, ℤ, pos, negsuc, neg_ℤ, Bool, true, false, if◌then◌else◌, ◌==◌, Option, Some, None, codes}
+use Rattle.c_lexer.specs.declared.pieces.Piece.{Piece}
 use Rattle.c_lexer.specs.Tokens.{gap}
-use Rattle.c_parser.specs.declared.tree.Piece.{Piece}
+use Rattle.c_lexer.specs.Pieces.{bytes_of}
 use Rattle.c_parser.specs.declared.tree.Step.{Step}
 use Rattle.c_parser.specs.declared.tree.Step.TheVariants as st
 use Rattle.c_parser.specs.declared.tree.AssignSign.{AssignSign}
@@ -13,7 +14,7 @@ use Rattle.c_parser.specs.declared.tree.Loop.{Loop as LoopTree}
 use Rattle.c_parser.specs.declared.tree.Node.TheOpen.{Node-F, Branch-F, Loop-F}
 use Rattle.c_parser.specs.declared.tree.Node.TheFolds.{fold-Node, fold-Branch, fold-Loop}
 use Rattle.clan_extract.specs.Regions.{Comparison}
-use Rattle.region_trees.specs.Terms.{Located, Element, order_of, bytes_of, number_of, sum_of, value_of, target_of}
+use Rattle.region_trees.specs.Terms.{Located, Element, order_of, number_of, sum_of, value_of, target_of}
 
 -- a statement, and a list of statements; an empty one is a block without any. A loop has its name's place and its step's; a downward
 -- loop has a negative step

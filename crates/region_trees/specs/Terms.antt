@@ -1,8 +1,8 @@
 -- Values as terms: what the parser's trees say, with the brackets of the text, one sign between two operands, and the bytes of names.
 use Rattle.std.specs.Prelude.{ℕ, List, [], ◌∷◌, Option, Some, None}
-use Rattle.c_lexer.specs.Readings.{slice}
-use Rattle.c_parser.specs.Symbols.{value_from}
-use Rattle.c_parser.specs.declared.tree.Piece.{Piece}
+use Rattle.c_lexer.specs.declared.pieces.Piece.{Piece}
+use Rattle.c_lexer.specs.Pieces.{bytes_of}
+use Rattle.c_lexer.specs.Symbols.{value_from}
 use Rattle.c_parser.specs.declared.tree.Rel.{Rel}
 use Rattle.c_parser.specs.declared.tree.Rel.TheVariants as rl
 use Rattle.c_parser.specs.declared.tree.EqualSign.{EqualSign}
@@ -127,9 +127,6 @@ chosen test None = test
 chosen test (Some arms) = Choice test arms.yes arms.no
 
 -- ---- what each form of the tree says
-
-abbrev pub bytes_of : List ℕ → Piece → List ℕ
-bytes_of source piece = slice source piece.from piece.to
 
 -- the number that the digits stand for
 abbrev pub number_of : List ℕ → Piece → ℕ

@@ -1,6 +1,6 @@
 use Rattle.std.proofs.Common.{rules, arith, ap}
 use Rattle.std.proofs.lemmas.Grind.{common_steps}
-use Rattle.c_parser.specs.Input.{Parser}
+use Rattle.c_lexer.specs.Input.{Parser}
 use Rattle.c_parser.specs.declared.tree.Node.{Node}
 use Rattle.c_parser.specs.Statements.{block_nodes, block_from, inner}
 use Rattle.c_parser.proofs.Turns.{one_more, no_more}

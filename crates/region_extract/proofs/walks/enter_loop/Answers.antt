@@ -1,8 +1,8 @@
 use Rattle.std.proofs.Common.{◌∙◌, ap}
+use Rattle.c_lexer.specs.Pieces.{bytes_of}
 use Rattle.clan_rows.specs.Contents.{said}
 use Rattle.clan_walk.specs.Walk.{entered_loop}
 use Rattle.c_parser.specs.declared.tree.Loop.{out-Loop}
-use Rattle.region_trees.specs.Terms.{bytes_of}
 use Rattle.region_extract.proofs.Reading.{on_ok}
 use Rattle.region_extract.proofs.walks.enter_loop.Goals as goal
 

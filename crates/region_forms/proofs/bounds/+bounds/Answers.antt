@@ -4,7 +4,7 @@ use Rattle.std.specs.Option.{is_some}
 use Rattle.std.proofs.lemmas.Bool.{eqb-true}
 use Rattle.c_parser.specs.declared.tree.And.{And, out-And}
 use Rattle.c_parser.specs.declared.tree.Arms.{Arms}
-use Rattle.c_parser.specs.declared.tree.Piece.{Piece}
+use Rattle.c_lexer.specs.declared.pieces.Piece.{Piece}
 use Rattle.c_parser.specs.declared.tree.Product.{out-Product}
 use Rattle.c_parser.specs.declared.tree.Sum.{Sum, out-Sum}
 use Rattle.c_parser.specs.declared.tree.Unary.{out-Unary}
@@ -18,7 +18,8 @@ use Rattle.clan_rows.specs.declared.bounds.Bounds.{Bounds}
 use Rattle.clan_rows.specs.Contents.{bounds_of}
 use Rattle.region_trees.specs.Layers.{primary_is, primary_layer, term_of_sum}
 use Rattle.region_trees.specs.Regions.{bound_of, divisor_of, expression_of, option_map2}
-use Rattle.region_trees.specs.Terms.{Joined, Term, bytes_of, of_equal, primary_of, value_of}
+use Rattle.c_lexer.specs.Pieces.{bytes_of}
+use Rattle.region_trees.specs.Terms.{Joined, Term, of_equal, primary_of, value_of}
 use Rattle.region_forms.specs.declared.bounds.Operator.{Operator}
 use Rattle.region_forms.specs.declared.bounds.Operator.TheVariants as op
 use Rattle.region_forms.specs.declared.bounds.Reach.{Reach}

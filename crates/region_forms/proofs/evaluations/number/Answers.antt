@@ -1,6 +1,6 @@
 use Rattle.std.proofs.Common.{ap, sym, ◌∙◌}
 use Rattle.std.specs.Prelude.{pos}
-use Rattle.c_parser.specs.Symbols.{value_from}
+use Rattle.c_lexer.specs.Symbols.{value_from}
 use Rattle.clan_rows.specs.Fitting.{in_range}
 use Rattle.region_forms.proofs.Leaves.{value_of_integer}
 use Rattle.region_forms.proofs.evaluations.number.Goals as goal

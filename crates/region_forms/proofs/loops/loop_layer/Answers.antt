@@ -1,11 +1,12 @@
 use Rattle.std.proofs.Common.{subst, false}
+use Rattle.c_lexer.specs.Pieces.{bytes_of}
 use Rattle.c_parser.specs.declared.tree.Loop.{out-Loop}
 use Rattle.clan_rows.specs.Bounds.{is_strict, no_bounds}
 use Rattle.clan_rows.specs.Contents.{bounds_of, said}
 use Rattle.clan_rows.specs.Fitting.{in_range}
 use Rattle.region_trees.specs.Regions.{bound_of}
 use Rattle.region_trees.specs.Statements.{step_of}
-use Rattle.region_trees.specs.Terms.{bytes_of, order_of, sum_of}
+use Rattle.region_trees.specs.Terms.{order_of, sum_of}
 use Rattle.region_forms.specs.Bounds.{IsBound, IsStride}
 use Rattle.region_forms.proofs.LoopHeads.{loop_made}
 use Rattle.region_forms.proofs.Trees.{ok_map}

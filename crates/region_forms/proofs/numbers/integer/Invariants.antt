@@ -1,5 +1,5 @@
 use Rattle.std.proofs.Common.{◌≡◌, drop}
-use Rattle.c_parser.specs.Symbols.{value_from}
+use Rattle.c_lexer.specs.Symbols.{value_from}
 use Rattle.region_forms.proofs.numbers.integer.Given as goal
 
 abbrev pub invariant-loop-b : goal.invariant-loop-b

@@ -1,6 +1,7 @@
 use Rattle.std.proofs.Common.{arith}
 use Rattle.std.proofs.lemmas.Grind.{common_steps}
-use Rattle.region_trees.specs.Terms.{bytes_of, value_of}
+use Rattle.c_lexer.specs.Pieces.{bytes_of}
+use Rattle.region_trees.specs.Terms.{value_of}
 use Rattle.region_rules.proofs.Trees.{by_sum, by_product, by_compare, by_equal, by_and, by_or, by_unary, sign_first}
 use Rattle.region_rules.proofs.Calls.{by_call}
 use Rattle.region_rules.proofs.Primaries.{by_called, by_bracketed}

@@ -1,6 +1,6 @@
 use Rattle.std.proofs.Common.{rules, arith}
 use Rattle.std.proofs.lemmas.Grind.{common_steps}
-use Rattle.c_parser.specs.declared.symbols.Symbol.TheVariants as s
+use Rattle.c_lexer.specs.declared.symbols.Symbol.TheVariants as s
 use Rattle.c_parser.specs.Values.{separated_from, below, equal}
 use Rattle.c_parser.proofs.Turns.{one_more, no_more}
 use Rattle.c_parser.proofs.values.Grammar.and_value_items.Goals as goal

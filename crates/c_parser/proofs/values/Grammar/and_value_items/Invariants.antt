@@ -1,5 +1,5 @@
 use Rattle.std.proofs.Common.{◌≡◌, ◌-◌}
-use Rattle.c_parser.specs.declared.symbols.Symbol.TheVariants as s
+use Rattle.c_lexer.specs.declared.symbols.Symbol.TheVariants as s
 use Rattle.c_parser.specs.Values.{separated_from, separated, below, equal}
 use Rattle.c_parser.proofs.values.Grammar.and_value_items.Given as goal
 

@@ -1,5 +1,5 @@
 use Rattle.std.proofs.Common.{◌≡◌, ◌-◌}
-use Rattle.c_parser.specs.declared.symbols.Symbol.TheVariants as s
+use Rattle.c_lexer.specs.declared.symbols.Symbol.TheVariants as s
 use Rattle.c_parser.specs.Values.{separated_from, separated, below}
 use Rattle.c_parser.proofs.values.Grammar.argument_items.Given as goal
 

@@ -1,7 +1,7 @@
 //! Why parsing stops.
 
 ghost use Rattle.std.specs.Prelude.{◌≡◌};
-ghost use Rattle.c_parser.specs.Stops.{fail_of};
+ghost use Rattle.c_lexer.specs.Stops.{fail_of};
 
 use std::alloc::AllocError;
 use suite_base::{Fail, NoMemory, Refusal};
@@ -27,7 +27,7 @@ impl Stop {
 
 impl From<AllocError> for Stop {
     ghost use Rattle.std.specs.Prelude.{◌≡◌};
-    ghost use Rattle.c_parser.specs.declared.stops.Stop.TheVariants.{Memory};
+    ghost use Rattle.c_lexer.specs.declared.stops.Stop.TheVariants.{Memory};
 
     ghost from_gives = { λ _ e. e ≡ Memory };
 
@@ -38,7 +38,7 @@ impl From<AllocError> for Stop {
 
 impl From<NoMemory> for Stop {
     ghost use Rattle.std.specs.Prelude.{◌≡◌};
-    ghost use Rattle.c_parser.specs.declared.stops.Stop.TheVariants.{Memory};
+    ghost use Rattle.c_lexer.specs.declared.stops.Stop.TheVariants.{Memory};
 
     ghost from_gives = { λ _ e. e ≡ Memory };
 

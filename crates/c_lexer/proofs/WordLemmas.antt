@@ -1,11 +1,11 @@
 -- Names that are too short or too long to be one of the words.
-use Rattle.std.proofs.Common.{◌≡◌, ◌⊎◌, ℕ, ◌<◌, ◌==◌, nat_lt, Bool, true, false, if◌then◌else◌, inl, inr, List, [], ◌∷◌, length, map, refl, ap, sym, ◌∙◌, arith}
+use Rattle.std.proofs.Common.{◌≡◌, ◌⊎◌, ℕ, ◌<◌, nat_lt, Bool, true, false, if◌then◌else◌, inl, inr, List, [], ◌∷◌, length, refl, ap, sym, ◌∙◌, arith}
 use Rattle.std.proofs.lemmas.Slice.Eq.{bytes_eq-Decides}
 use Rattle.std.proofs.lemmas.Bool.{ltb-true}
 use Rattle.std.specs.Str.{bytes_eq}
-use Rattle.c_parser.specs.declared.symbols.Symbol.{Symbol}
-use Rattle.c_parser.specs.declared.symbols.Symbol.TheVariants as s
-use Rattle.c_parser.specs.Symbols.{lookup, name_symbol, word_symbols}
+use Rattle.c_lexer.specs.declared.symbols.Symbol.{Symbol}
+use Rattle.c_lexer.specs.declared.symbols.Symbol.TheVariants as s
+use Rattle.c_lexer.specs.Symbols.{lookup, name_symbol, word_symbols}
 
 -- each word has 2 to 8 bytes
 abbrev are_between : List (List ℕ × Symbol) → Bool

@@ -1,7 +1,7 @@
 use Rattle.std.proofs.Common.{◌≡◌, ℕ, List, ap, sym, ◌∙◌}
 use Rattle.c_lexer.specs.Readings.{Reading}
-use Rattle.c_parser.specs.Input.{symbol, start, here, behind}
-use Rattle.c_parser.proofs.tokens.Tokens.take.Goals as goal
+use Rattle.c_lexer.specs.Input.{symbol, start, here, behind}
+use Rattle.c_lexer.proofs.cursors.Tokens.take.Goals as goal
 
 same_reading : (old : Reading) (text : List ℕ) (at : ℕ) → text ≡ old.text → at ≡ old.at → old ≡ record { text = text; at = at }
 same_reading old text at e f =

@@ -1,7 +1,7 @@
 -- More digits make no lesser number.
 use Rattle.std.proofs.Common.{◌≡◌, ℕ, ◌+◌, ◌-◌, ◌*◌, ◌≤◌, ◌<◌, true, List, [], ◌∷◌, length, drop, sym, arith, length-drop}
 use Rattle.std.proofs.lemmas.Bool.{lt-ltb}
-use Rattle.c_parser.specs.Symbols.{value_from, is_too_large}
+use Rattle.c_lexer.specs.Symbols.{value_from, is_too_large}
 
 grows : (value : ℕ) (digits : List ℕ) → value ≤ value_from value digits
 grows value [] = omega arith

@@ -1,21 +1,20 @@
 -- What stands where no token of the grammar does.
-use Rattle.std.proofs.Common.{◌≡◌, ℕ, zero, suc, ◌+◌, ◌-◌, ◌≤◌, ◌==◌, Bool, true, false, if◌then◌else◌, List, [], ◌∷◌, length, take, drop, map, Option, Some, None, Ok, Err, inl, inr, refl, ap, sym, subst, ◌∙◌, arith}
+use Rattle.std.proofs.Common.{◌≡◌, ℕ, zero, suc, ◌+◌, ◌-◌, ◌≤◌, ◌==◌, Bool, true, false, if◌then◌else◌, List, [], ◌∷◌, length, take, drop, Option, Some, None, Ok, Err, inl, inr, refl, ap, sym, subst, ◌∙◌, arith}
 use Rattle.std.specs.Prelude.{◌||◌, ◌&&◌, ◌⊎◌, slice_index, codes}
 use Rattle.std.specs.Str.{bytes_eq}
 use Rattle.std.proofs.lemmas.Bool.{eqb-true}
 use Rattle.c_lexer.specs.declared.tokens.TokenKind.{TokenKind}
 use Rattle.c_lexer.specs.declared.tokens.TokenKind.TheVariants as kind
+use Rattle.c_lexer.specs.declared.symbols.Symbol.{Symbol}
+use Rattle.c_lexer.specs.declared.symbols.Symbol.TheVariants as s
+use Rattle.c_lexer.specs.Tokens.{is_one_of, is_pair, is_single, sign_len, sign_of, token_at, begins_number, number_kind, number_len, is_integer, opens_comment}
+use Rattle.c_lexer.specs.Readings.{Reading, Lexeme, slice, next, lexeme_at}
+use Rattle.c_lexer.specs.Readings as lexer
+use Rattle.c_lexer.specs.Symbols.{lookup, name_symbol, word_symbols, single, assigned, doubled, sign_symbol, symbol_of, is_too_large, is_sound}
+use Rattle.c_lexer.specs.Input.{symbol, symbol_from}
+use Rattle.c_lexer.proofs.TokenFacts.{some_is}
 use Rattle.std.specs.List.{prefix_len}
 use Rattle.suite_base.specs.Bytes.{begins_name, is_name_byte}
-use Rattle.c_lexer.specs.Tokens.{is_one_of, is_pair, is_single, sign_len, sign_of, token_at, begins_number, number_kind, number_len, is_integer, opens_comment}
-use Rattle.c_lexer.specs.Readings.{Reading, Lexeme, slice, next, lexeme_at, next_from}
-use Rattle.c_lexer.specs.Readings as lexer
-use Rattle.c_parser.specs.declared.symbols.Symbol.{Symbol}
-use Rattle.c_parser.specs.declared.symbols.Symbol.TheVariants as s
-use Rattle.c_parser.specs.Symbols.{lookup, name_symbol, word_symbols, single, assigned, doubled, sign_symbol, symbol_of, is_too_large}
-use Rattle.c_parser.specs.Input.{symbol, symbol_from}
-use Rattle.c_parser.specs.Prefixes.{is_sound}
-use Rattle.c_parser.proofs.TokenFacts.{some_is}
 
 -- ---- names
 

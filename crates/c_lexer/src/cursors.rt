@@ -1,15 +1,14 @@
 //! A cursor over the tokens of a region, which cuts each as it is reached.
 
 ghost use Rattle.std.specs.Prelude.{◌≡◌, ◌<◌, ◌≤◌, ◌^◌, length, OnOk};
-ghost use Rattle.c_lexer.specs.Readings.{Reading, slice};
-ghost use Rattle.c_parser.specs.Input as spec;
-ghost use Rattle.c_parser.specs.Statements as statement;
-ghost use Rattle.c_parser.specs.Input.{Reads};
+ghost use Rattle.c_lexer.specs.Input as spec;
+ghost use Rattle.c_lexer.specs.Input.{Reads};
 
+use crate::lexers::Lexer;
+use crate::pieces::Piece;
 use crate::stops::Stop;
 use crate::symbols::{Symbol, same_symbol, symbol_of};
-use crate::tree::Piece;
-use c_lexer::{BadToken, Lexer};
+use crate::tokens::BadToken;
 use std::marker::Model;
 use suite_base::{Place, Refusal};
 
@@ -27,7 +26,7 @@ pub struct Tokens<'a> {
 
 impl<'a> Model for Tokens<'a> {
     ghost use Rattle.c_lexer.specs.Readings.{Reading};
-    ghost use Rattle.c_parser.specs.Cursor.{reading_of, IsReady};
+    ghost use Rattle.c_lexer.specs.Cursor.{reading_of, IsReady};
 
     ghost Value = { Reading };
 
@@ -56,6 +55,7 @@ fn fetch(lexer: &mut Lexer<'_>) -> (Symbol, usize, Place)
 }
 
 impl<'a> Tokens<'a> {
+    /// Begins with the lexer's next token. The text has fewer than 2^32 bytes.
     pub fn new(lexer: Lexer<'a>) -> Tokens<'a>
         requires { length lexer.text < 2 ^ 32 }
         ensures { result ≡ lexer.entry }
@@ -72,6 +72,7 @@ impl<'a> Tokens<'a> {
         }
     }
 
+    /// What stands next.
     pub fn peek(&self) -> Symbol
         ensures { result ≡ spec.symbol self.now }
     {
@@ -123,6 +124,7 @@ impl<'a> Tokens<'a> {
         Stop::Refused(refusal)
     }
 
+    /// Whether this token comes next.
     #[tactic(auto, unfolding(crate::specs::Input::sees))]
     pub fn sees(&self, symbol: Symbol) -> bool
         ensures { result ≡ spec.sees symbol self.now }
@@ -169,9 +171,9 @@ impl<'a> Tokens<'a> {
     }
 
     /// The next token opens a loop, of which so many may still be opened.
-    #[tactic(auto, unfolding(crate::specs::Statements::open_loop))]
+    #[tactic(auto, unfolding(crate::specs::Input::open_loop))]
     pub fn open_loop(&self, loops: usize) -> Result<(), Stop>
-        ensures reads { Reads (statement.open_loop loops self.now) result self.now }
+        ensures reads { Reads (spec.open_loop loops self.now) result self.now }
         ensures some { OnOk result (0 < loops) }
     {
         if loops == 0 {
@@ -182,9 +184,9 @@ impl<'a> Tokens<'a> {
     }
 
     // Whether the next token is the name that stands at this piece.
-    #[tactic(auto, unfolding(crate::specs::Statements::sees_name, crate::specs::Input::piece))]
+    #[tactic(auto, unfolding(crate::specs::Input::sees_name, crate::specs::Input::piece))]
     fn sees_name(&self, name: Piece) -> bool
-        ensures { result ≡ statement.sees_name name self.now }
+        ensures { result ≡ spec.sees_name name self.now }
     {
         if !self.sees(Symbol::Name) {
             return false;
@@ -193,13 +195,13 @@ impl<'a> Tokens<'a> {
             from: self.from,
             to: self.lexer.at(),
         };
-        self.bytes(name) == self.bytes(piece)
+        self.lexer.bytes(name) == self.lexer.bytes(piece)
     }
 
     /// Takes a name, which has to be the one that stands at this piece.
-    #[tactic(auto, unfolding(crate::specs::Statements::same_name))]
+    #[tactic(auto, unfolding(crate::specs::Input::same_name))]
     pub fn same_name(&mut self, name: Piece) -> Result<(), Stop>
-        ensures { Reads (statement.same_name name self.old) result self.new }
+        ensures { Reads (spec.same_name name self.old) result self.new }
     {
         if self.sees_name(name) {
             self.take();
@@ -207,12 +209,5 @@ impl<'a> Tokens<'a> {
         } else {
             Err(self.refuse())
         }
-    }
-
-    // The bytes of a piece.
-    fn bytes(&self, piece: Piece) -> &'a [u8]
-        ensures { result.now ≡ slice self.now.text piece.from piece.to }
-    {
-        self.lexer.bytes(piece.from, piece.to)
     }
 }

@@ -1,16 +1,18 @@
 -- What a rule of the grammar reads from, and the steps that every rule is made of.
-use Rattle.std.specs.Prelude.{◌≡◌, ◌≢◌, ℕ, ◌+◌, ◌-◌, Bool, if◌then◌else◌, ◌==◌, List, length, Option, Some, None, Result, Ok, Err}
+use Rattle.std.specs.Prelude.{◌≡◌, ◌≢◌, ℕ, ◌+◌, ◌-◌, Bool, false, if◌then◌else◌, ◌==◌, List, length, Option, Some, None, Result, Ok, Err}
+use Rattle.std.specs.Str.{bytes_eq}
 use Rattle.suite_base.specs.declared.places.Place.{Place}
 use Rattle.suite_base.specs.declared.refusals.Refusal.{Refusal}
 use Rattle.suite_base.specs.declared.refusals.Refusal.TheVariants.{BadToken, NumberTooLarge, BadSyntax, TooDeep}
+use Rattle.c_lexer.specs.declared.stops.Stop.{Stop}
+use Rattle.c_lexer.specs.declared.stops.Stop.TheVariants.{Memory, Refused}
+use Rattle.c_lexer.specs.declared.pieces.Piece.{Piece}
+use Rattle.c_lexer.specs.declared.symbols.Symbol.{Symbol}
+use Rattle.c_lexer.specs.declared.symbols.Symbol.TheVariants as s
 use Rattle.c_lexer.specs.Places.{place_at}
 use Rattle.c_lexer.specs.Readings.{Reading, Lexeme, slice, next}
-use Rattle.c_parser.specs.declared.stops.Stop.{Stop}
-use Rattle.c_parser.specs.declared.stops.Stop.TheVariants.{Memory, Refused}
-use Rattle.c_parser.specs.declared.tree.Piece.{Piece}
-use Rattle.c_parser.specs.declared.symbols.Symbol.{Symbol}
-use Rattle.c_parser.specs.declared.symbols.Symbol.TheVariants as s
-use Rattle.c_parser.specs.Symbols.{symbol_of, same_symbol}
+use Rattle.c_lexer.specs.Pieces.{bytes_of}
+use Rattle.c_lexer.specs.Symbols.{symbol_of, same_symbol}
 
 -- ---- the next token
 
@@ -128,6 +130,22 @@ expect k = λ r. if sees k r then Ok (piece r, after r) else refuse r
 -- the next token opens a nest, of which so many may still be opened
 unfoldable pub open_nest : ℕ → Parser (Unit {0})
 open_nest nests = λ r. if nests == 0 then Err (Refused (TooDeep (here r))) else Ok (tt, r)
+
+-- the next token opens a loop, of which so many may still be opened
+unfoldable pub open_loop : ℕ → Parser (Unit {0})
+open_loop loops = λ r. if loops == 0 then Err (Refused (TooDeep (here r))) else Ok (tt, r)
+
+-- two pieces of a text have the same bytes
+abbrev pub same_text : List ℕ → Piece → Piece → Bool
+same_text text a b = bytes_eq (bytes_of text a) (bytes_of text b)
+
+-- the next token is the name that stands there
+unfoldable pub sees_name : Piece → Reading → Bool
+sees_name name r = if sees s.Name r then same_text r.text name (piece r) else false
+
+-- takes that name, which has to come next
+unfoldable pub same_name : Piece → Parser (Unit {0})
+same_name name = λ r. if sees_name name r then Ok (tt, after r) else refuse r
 
 -- ---- what a function that parses ensures: the parser's outcome, unless memory is wanting
 

@@ -1,6 +1,6 @@
 use Rattle.std.proofs.Common.{rules}
-use Rattle.c_parser.specs.Symbols.{same_symbol}
-use Rattle.c_parser.proofs.symbols.same_symbol.Goals as goal
+use Rattle.c_lexer.specs.Symbols.{same_symbol}
+use Rattle.c_lexer.proofs.symbols.same_symbol.Goals as goal
 
 pub returns-clause-value : goal.returns-clause-value
 unfolding same_symbol

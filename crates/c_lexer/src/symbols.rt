@@ -1,9 +1,9 @@
 //! What a token is to the grammar.
 
 ghost use Rattle.std.specs.Prelude.{◌≡◌, ◌≢◌, map, ◌<◌, ◌+◌, ◌-◌, ◌*◌, ◌^◌, ◌≤◌, true, false};
-ghost use Rattle.c_parser.specs.Symbols as spec;
+ghost use Rattle.c_lexer.specs.Symbols as spec;
 
-use c_lexer::TokenKind;
+use crate::tokens::TokenKind;
 
 /// What stands next: a token by its role in the grammar, the end, or what is none of both.
 #[derive(Clone, Copy, Debug, PartialEq, Eq)]

@@ -1,8 +1,8 @@
 -- What a `Tokens` shows, and what it keeps ready.
 use Rattle.std.specs.Prelude.{◌≡◌, ◌<◌, ◌^◌, length}
+use Rattle.c_lexer.specs.declared.cursors.Tokens.TheInside.{Inside}
 use Rattle.c_lexer.specs.Readings.{Reading}
-use Rattle.c_parser.specs.declared.tokens.Tokens.TheInside.{Inside}
-use Rattle.c_parser.specs.Input.{symbol, start, behind, here}
+use Rattle.c_lexer.specs.Input.{symbol, start, behind, here}
 
 abbrev pub reading_of : Inside → Reading
 reading_of t = record { text = t.lexer.text; at = t.at }

@@ -1,9 +1,9 @@
 use Rattle.std.proofs.Common.{◌-◌, ◌∙◌, length, ap, sym}
 use Rattle.c_lexer.specs.Places.{place_at}
 use Rattle.c_lexer.specs.Readings.{Reading}
-use Rattle.c_parser.specs.Symbols.{symbol_of}
-use Rattle.c_parser.specs.Input.{symbol, start, here, behind, symbol_from, start_from, here_from, behind_from}
-use Rattle.c_parser.proofs.tokens.fetch.Goals as goal
+use Rattle.c_lexer.specs.Symbols.{symbol_of}
+use Rattle.c_lexer.specs.Input.{symbol, start, here, behind, symbol_from, start_from, here_from, behind_from}
+use Rattle.c_lexer.proofs.cursors.fetch.Goals as goal
 
 pub returns-in-Ok-None-clause-symbol : goal.returns-in-Ok-None-clause-symbol
 unfolding symbol

@@ -2,18 +2,18 @@
 use Rattle.std.proofs.Common.{◌≡◌, ℕ, zero, suc, ◌-◌, ◌≤◌, ◌<◌, ◌==◌, Bool, true, false, if◌then◌else◌, List, [], ◌∷◌, length, drop, Option, Some, None, Ok, inl, inr, refl, ap, sym, ◌∙◌, arith, length-drop}
 use Rattle.std.specs.Prelude.{◌||◌, ◌&&◌, ◌⊎◌}
 use denote.Enum.Bare.{same_true, same_false, true_same, false_same}
-use Rattle.c_parser.specs.contracts.symbols.Symbol.{the_type}
+use Rattle.c_lexer.specs.contracts.symbols.Symbol.{the_type}
 use Rattle.c_lexer.specs.declared.tokens.TokenKind.{TokenKind}
 use Rattle.c_lexer.specs.declared.tokens.TokenKind.TheVariants.{Name}
-use Rattle.suite_base.specs.Bytes.{begins_name}
-use Rattle.suite_base.specs.Numbers.{is_digit}
+use Rattle.c_lexer.specs.declared.symbols.Symbol.{Symbol}
+use Rattle.c_lexer.specs.declared.symbols.Symbol.TheVariants as s
 use Rattle.c_lexer.specs.Tokens.{token_at, begins_number, number_len, goes_on, opens_comment, sign_of}
 use Rattle.c_lexer.specs.Readings.{Reading, lexeme_at, start}
+use Rattle.c_lexer.specs.Symbols.{same_symbol}
+use Rattle.c_lexer.specs.Input.{symbol, symbol_from, behind, behind_from, after, left, sees}
 use Rattle.c_lexer.proofs.TokenLemmas.{name_moves}
-use Rattle.c_parser.specs.declared.symbols.Symbol.{Symbol}
-use Rattle.c_parser.specs.declared.symbols.Symbol.TheVariants as s
-use Rattle.c_parser.specs.Symbols.{same_symbol}
-use Rattle.c_parser.specs.Input.{symbol, symbol_from, behind, behind_from, after, left, sees}
+use Rattle.suite_base.specs.Bytes.{begins_name}
+use Rattle.suite_base.specs.Numbers.{is_digit}
 
 pub is_same : (a b : Symbol) → same_symbol a b ≡ true → a ≡ b
 unfolding same_symbol

@@ -1,8 +1,8 @@
 use Rattle.std.proofs.Common.{rules, arith, inl, inr}
 use Rattle.std.proofs.lemmas.Grind.{common_steps}
-use Rattle.c_parser.specs.Symbols.{name_symbol}
-use Rattle.c_parser.proofs.WordLemmas.{free_name}
-use Rattle.c_parser.proofs.symbols.name_symbol.Goals as goal
+use Rattle.c_lexer.specs.Symbols.{name_symbol}
+use Rattle.c_lexer.proofs.WordLemmas.{free_name}
+use Rattle.c_lexer.proofs.symbols.name_symbol.Goals as goal
 
 pub returns : goal.returns
 unfolding name_symbol

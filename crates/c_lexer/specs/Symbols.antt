@@ -1,12 +1,12 @@
 -- What a token is to the grammar.
-use Rattle.std.specs.Prelude.{ℕ, ◌+◌, ◌-◌, ◌*◌, Bool, if◌then◌else◌, ◌==◌, nat_lt, List, [], ◌∷◌, ◌++◌, map, codes}
+use Rattle.std.specs.Prelude.{ℕ, ◌+◌, ◌-◌, ◌*◌, Bool, true, false, if◌then◌else◌, ◌==◌, nat_lt, List, [], ◌∷◌, ◌++◌, map, codes}
 use Rattle.std.specs.Str.{bytes_eq}
 use denote.Enum.Bare.{sameb}
-use Rattle.c_parser.specs.contracts.symbols.Symbol.{the_type}
+use Rattle.c_lexer.specs.contracts.symbols.Symbol.{the_type}
 use Rattle.c_lexer.specs.declared.tokens.TokenKind.{TokenKind}
 use Rattle.c_lexer.specs.declared.tokens.TokenKind.TheVariants as kind
-use Rattle.c_parser.specs.declared.symbols.Symbol.{Symbol}
-use Rattle.c_parser.specs.declared.symbols.Symbol.TheVariants as s
+use Rattle.c_lexer.specs.declared.symbols.Symbol.{Symbol}
+use Rattle.c_lexer.specs.declared.symbols.Symbol.TheVariants as s
 use Rattle.suite_base.specs.Limits.{max_weight}
 
 -- `==` on symbols
@@ -83,3 +83,10 @@ symbol_of kind.Name text = name_symbol text
 symbol_of kind.Integer text = if is_too_large text then s.TooLarge else s.Integer
 symbol_of kind.Literal text = s.Literal
 symbol_of kind.Sign text = sign_symbol text
+
+-- a token of the grammar: a place without a token is none, nor is an integer outside the range, nor the end
+abbrev pub is_sound : Symbol → Bool
+is_sound s.End = false
+is_sound s.Bad = false
+is_sound s.TooLarge = false
+is_sound _ = true
