@@ -9,7 +9,7 @@ ghost use Rattle.region_forms.specs.Evaluations.{named_of};
 ghost use Rattle.region_trees.specs.Layers.{terms_by};
 ghost use Rattle.region_trees.specs.Terms.{sum_of, target_of};
 
-use crate::pieces::piece_bytes;
+use c_lexer::piece_bytes;
 use c_parser::{Sum, Target};
 use clan_rows::Form;
 use clan_walk::Extraction;

@@ -3,7 +3,6 @@
 
 mod accesses;
 mod assignments;
-mod pieces;
 mod places;
 mod reads;
 mod regions;

@@ -9,9 +9,9 @@ ghost use Rattle.region_trees.specs.Terms.{order_of, target_of, value_of};
 
 use crate::accesses::{add_target, scope_at};
 use crate::assignments::has_assignment;
-use crate::pieces::piece_bytes;
 use crate::reads::read_value;
 use crate::spaces::spaced;
+use c_lexer::piece_bytes;
 use c_parser::{Assign, AssignSign, Branch, Loop, Node, Piece, Rel, Value};
 use clan_rows::{Count, Layer};
 use clan_walk::{Direction, Extraction};

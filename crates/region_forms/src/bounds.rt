@@ -6,9 +6,9 @@ ghost use Rattle.region_forms.specs.Bounds as spec;
 ghost use Rattle.region_trees.specs.Layers.{term_of_sum};
 ghost use Rattle.region_trees.specs.Terms.{value_of};
 
-use crate::evaluations::span;
 use crate::scopes::Scope;
 use crate::sums::{sum_value, value_value};
+use c_lexer::piece_bytes;
 use c_parser::{Piece, Primary, Sum, Value};
 use clan_rows::{Bounds, Side};
 use std::alloc::Global;
@@ -93,7 +93,7 @@ fn with_call(
     }
     let left = &arguments[0];
     let right = &arguments[1];
-    match operator_of(span(scope.source, name)) {
+    match operator_of(piece_bytes(scope.source, name)) {
         None => Ok(bounds),
         Some(Operator::Both) => {
             let first = with_argument(alloc, scope, bounds, reach, left)?;

@@ -3,11 +3,11 @@
 ghost use Rattle.std.specs.Prelude.{◌≡◌, ◌||◌, IfOk};
 ghost use Rattle.clan_rows.specs.Contents.{AgreeInShape, made};
 ghost use Rattle.region_forms.specs.Evaluations as spec;
-ghost use Rattle.c_lexer.specs.Pieces.{bytes_of};
 ghost use Rattle.region_trees.specs.Terms.{Integer, number_of, target_of};
 
 use crate::numbers::integer;
 use crate::scopes::Scope;
+use c_lexer::piece_bytes;
 use c_parser::{Piece, ProductSign, SumSign, Target, UnarySign};
 use clan_rows::{Form, difference, negative, product, sum};
 use row_core::Coeff;
@@ -136,7 +136,7 @@ fn either(left: bool, right: bool) -> bool
 pub fn number(alloc: Global, scope: &Scope<'_>, piece: Piece) -> Result<Evaluation, NoMemory>
     ensures { IfOk result (λ v. spec.IsValueAt scope.now (Integer (number_of scope.now.source.now piece)) (spec.told v)) }
 {
-    match integer(span(scope.source, piece)) {
+    match integer(piece_bytes(scope.source, piece)) {
         None => Ok(Evaluation::nothing()),
         Some(value) => {
             let form = Form::of_number(alloc, scope.parameters, scope.loops, value)?;
@@ -150,14 +150,6 @@ pub fn number(alloc: Global, scope: &Scope<'_>, piece: Piece) -> Result<Evaluati
     }
 }
 
-/// The bytes of a piece.
-pub fn span(source: &[u8], piece: Piece) -> &[u8]
-    ensures { result.now ≡ bytes_of source.now piece }
-{
-    let behind = &source[piece.from.min(source.len())..];
-    &behind[..piece.to.saturating_sub(piece.from).min(behind.len())]
-}
-
 /// The value of a name; with subscripts it is no expression.
 pub fn named(alloc: Global, scope: &Scope<'_>, target: &Target) -> Result<Evaluation, NoMemory>
     ensures { IfOk result (λ v. spec.IsValueAt scope.now (spec.named_of (target_of scope.now.source.now target.now)) (spec.told v)) }
@@ -165,7 +157,7 @@ pub fn named(alloc: Global, scope: &Scope<'_>, target: &Target) -> Result<Evalua
     if !target.subscripts.is_empty() {
         return Ok(Evaluation::nothing());
     }
-    let name = span(scope.source, target.name);
+    let name = piece_bytes(scope.source, target.name);
     let form = Form::of_name(alloc, scope.parameters, scope.loops, name)?;
     Ok(Evaluation::of_form(Some(form), true))
 }

@@ -9,10 +9,10 @@ ghost use Rattle.region_trees.specs.Statements.{step_of};
 ghost use Rattle.region_trees.specs.Terms.{order_of};
 
 use crate::bounds::{Reach, with_sum};
-use crate::evaluations::span;
 use crate::numbers::integer;
 use crate::scopes::Scope;
 use crate::sums::sum_value;
+use c_lexer::piece_bytes;
 use c_parser::{Loop, Rel, Step, Sum};
 use clan_rows::{Bounds, Layer, Side, Stride};
 use row_core::Coeff;
@@ -92,8 +92,8 @@ fn step_size(source: &[u8], step: Step) -> Option<Coeff>
     match step {
         Step::PostUp | Step::PreUp => Some(Coeff::ONE),
         Step::PostDown | Step::PreDown => Some(Coeff::ONE.negated()),
-        Step::AddUp(piece) => integer(span(source, piece)),
-        Step::SubDown(piece) => opposite(integer(span(source, piece))),
+        Step::AddUp(piece) => integer(piece_bytes(source, piece)),
+        Step::SubDown(piece) => opposite(integer(piece_bytes(source, piece))),
     }
 }
 

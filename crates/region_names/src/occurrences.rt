@@ -6,7 +6,8 @@ ghost use Rattle.region_names.specs.Walks.{element_name, function_name, head_nam
 
 use crate::registers::Register;
 use crate::roles::Role;
-use crate::scopes::{element_role, is_in_scope, is_operator, piece_bytes};
+use crate::scopes::{element_role, is_in_scope, is_operator};
+use c_lexer::piece_bytes;
 use c_parser::{Piece, Target};
 use suite_base::NoMemory;
 

@@ -3,23 +3,15 @@
 ghost use Rattle.std.specs.Prelude.{◌≡◌, ◌∷◌, map, IfOk};
 ghost use Rattle.clan_extract.specs.Regions.{is_among};
 ghost use Rattle.region_trees.specs.Occurrences as occurs;
-ghost use Rattle.c_lexer.specs.Pieces.{bytes_of};
 ghost use Rattle.c_lexer.specs.Symbols.{operator_names};
 ghost use Rattle.region_names.specs.Roles.{given};
 ghost use Rattle.region_names.specs.Walks.{scope_of};
 
 use crate::roles::Role;
+use c_lexer::piece_bytes;
 use c_parser::Piece;
 use std::alloc::Global;
 use suite_base::{List, NoMemory};
-
-/// The bytes of a span; those of it that the source has.
-pub fn piece_bytes<'a>(source: &'a [u8], piece: Piece) -> &'a [u8]
-    ensures { result.now ≡ bytes_of source.now piece }
-{
-    let behind = &source[piece.from.min(source.len())..];
-    &behind[..piece.to.saturating_sub(piece.from).min(behind.len())]
-}
 
 /// Whether a loop of the scope has this name.
 pub fn is_in_scope(source: &[u8], scope: &[Piece], name: &[u8]) -> bool

@@ -1,25 +1,10 @@
-//! The bytes of a span, and the size of the number that digits stand for.
+//! The size of the number that digits stand for.
 
 ghost use Rattle.std.specs.Prelude.{◌≡◌, ◌-◌};
 ghost use Rattle.c_lexer.specs.Symbols.{value_from};
-ghost use Rattle.c_lexer.specs.Pieces.{bytes_of};
 ghost use Rattle.region_rules.specs.Facts.{size_of, size_with};
 
 use crate::facts::Size;
-use c_parser::Piece;
-
-/// The bytes of a span of the source, as far as the source goes.
-pub fn piece_bytes(source: &[u8], piece: Piece) -> &[u8]
-    ensures { result.now ≡ bytes_of source.now piece }
-{
-    if piece.from >= piece.to || piece.from >= source.len() {
-        return &[];
-    }
-    if piece.to >= source.len() {
-        return &source[piece.from..];
-    }
-    &source[piece.from..piece.to]
-}
 
 // The size of one digit.
 #[tactic(auto, using(crate::proofs::Sizes::zero_size, crate::proofs::Sizes::one_size, crate::proofs::Sizes::large_size))]

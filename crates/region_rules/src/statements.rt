@@ -10,9 +10,10 @@ ghost use Rattle.region_rules.specs.Faults.{fault_of};
 ghost use Rattle.region_rules.specs.Faults as spec;
 
 use crate::facts::{Facts, Size};
-use crate::numbers::{number_size, piece_bytes};
+use crate::numbers::number_size;
 use crate::references::{earlier, target_fault, value_fault};
 use crate::values::{sum_facts, value_facts};
+use c_lexer::piece_bytes;
 use c_parser::{Assign, Branch, Loop, Node, Rel, Step, Sum, Value};
 
 // A loop that goes down, by its comparison.

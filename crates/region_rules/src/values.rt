@@ -11,7 +11,8 @@ use crate::facts::{
     Affinity, Arguments, Facts, added, both, bracketed, called_with, equated, integer, multiplied,
     no_facts, ordered, plain, signed, with_argument,
 };
-use crate::numbers::{number_size, piece_bytes};
+use crate::numbers::number_size;
+use c_lexer::piece_bytes;
 use c_parser::{And, Compare, Equal, Or, Piece, Primary, Product, Sum, Target, Unary, Value};
 
 /// Of a value.

@@ -2,9 +2,10 @@ use Rattle.std.proofs.Common.{◌≡◌, ◌∙◌, ℕ, List, [], ◌∷◌, le
 use Rattle.std.specs.Prelude.{◌==◌}
 use Rattle.std.specs.Option.{is_some}
 use Rattle.std.proofs.lemmas.Bool.{eqb-true}
+use Rattle.c_lexer.specs.declared.pieces.Piece.{Piece}
+use Rattle.c_lexer.specs.Pieces.{bytes_of}
 use Rattle.c_parser.specs.declared.tree.And.{And, out-And}
 use Rattle.c_parser.specs.declared.tree.Arms.{Arms}
-use Rattle.c_lexer.specs.declared.pieces.Piece.{Piece}
 use Rattle.c_parser.specs.declared.tree.Product.{out-Product}
 use Rattle.c_parser.specs.declared.tree.Sum.{Sum, out-Sum}
 use Rattle.c_parser.specs.declared.tree.Unary.{out-Unary}
@@ -18,7 +19,6 @@ use Rattle.clan_rows.specs.declared.bounds.Bounds.{Bounds}
 use Rattle.clan_rows.specs.Contents.{bounds_of}
 use Rattle.region_trees.specs.Layers.{primary_is, primary_layer, term_of_sum}
 use Rattle.region_trees.specs.Regions.{bound_of, divisor_of, expression_of, option_map2}
-use Rattle.c_lexer.specs.Pieces.{bytes_of}
 use Rattle.region_trees.specs.Terms.{Joined, Term, of_equal, primary_of, value_of}
 use Rattle.region_forms.specs.declared.bounds.Operator.{Operator}
 use Rattle.region_forms.specs.declared.bounds.Operator.TheVariants as op
@@ -130,7 +130,7 @@ with_call-returns-in-None t c =
     let left = c.index-arguments-0.result in
     let right = c.index-arguments-1.result in
     let two = two_items c.args.arguments.now left right c.if-arguments-ne2.false c.index-arguments-0.is c.index-arguments-1.is in
-    let named : None ≡ operator_named (bytes_of source c.args.name) = sym c.in-None.is ∙ c.operator_of.ensures ∙ ap operator_named c.span.ensures in
+    let named : None ≡ operator_named (bytes_of source c.args.name) = sym c.in-None.is ∙ c.operator_of.ensures ∙ ap operator_named c.piece_bytes.ensures in
     call_bound scope c.args.reach c.args.name c.args.arguments.now left right None c.args.bounds c.args.bounds two named
     (bound_nothing scope.parameters.now scope.loops.now c.args.reach.side c.args.reach.strict None (bounds_of c.args.bounds) (bounds_of c.args.bounds) refl)
 
@@ -141,7 +141,7 @@ with_call-returns-in_ok-first-in-Some-Both t c =
     let left = c.index-arguments-0.result in
     let right = c.index-arguments-1.result in
     let two = two_items c.args.arguments.now left right c.if-arguments-ne2.false c.index-arguments-0.is c.index-arguments-1.is in
-    let named : Some op.Both ≡ operator_named (bytes_of source c.args.name) = ap (λ (o : Operator). Some o) (sym c.in-Some-Both.field-0-is) ∙ c.in-Some-Both.ensures ∙ ap operator_named c.span.ensures in
+    let named : Some op.Both ≡ operator_named (bytes_of source c.args.name) = ap (λ (o : Operator). Some o) (sym c.in-Some-Both.field-0-is) ∙ c.in-Some-Both.ensures ∙ ap operator_named c.piece_bytes.ensures in
     let l = (value_of source left).term in
     let r = (value_of source right).term in
     let old = bounds_of c.args.bounds in
@@ -160,7 +160,7 @@ with_call-returns-in-Some-Ceiling t c =
     let left = c.index-arguments-0.result in
     let right = c.index-arguments-1.result in
     let two = two_items c.args.arguments.now left right c.if-arguments-ne2.false c.index-arguments-0.is c.index-arguments-1.is in
-    let named : Some op.Ceiling ≡ operator_named (bytes_of source c.args.name) = ap (λ (o : Operator). Some o) (sym c.in-Some-Ceiling.field-0-is) ∙ c.in-Some-Ceiling.ensures ∙ ap operator_named c.span.ensures in
+    let named : Some op.Ceiling ≡ operator_named (bytes_of source c.args.name) = ap (λ (o : Operator). Some o) (sym c.in-Some-Ceiling.field-0-is) ∙ c.in-Some-Ceiling.ensures ∙ ap operator_named c.piece_bytes.ensures in
     ok_map c.with_ceiling.result _ _
     (λ made p. call_bound scope c.args.reach c.args.name c.args.arguments.now left right (Some op.Ceiling) c.args.bounds made two named p)
     c.with_ceiling.ensures
@@ -172,7 +172,7 @@ with_call-returns-in-Some-Floor t c =
     let left = c.index-arguments-0.result in
     let right = c.index-arguments-1.result in
     let two = two_items c.args.arguments.now left right c.if-arguments-ne2.false c.index-arguments-0.is c.index-arguments-1.is in
-    let named : Some op.Floor ≡ operator_named (bytes_of source c.args.name) = ap (λ (o : Operator). Some o) (sym c.in-Some-Floor.field-0-is) ∙ c.in-Some-Floor.ensures ∙ ap operator_named c.span.ensures in
+    let named : Some op.Floor ≡ operator_named (bytes_of source c.args.name) = ap (λ (o : Operator). Some o) (sym c.in-Some-Floor.field-0-is) ∙ c.in-Some-Floor.ensures ∙ ap operator_named c.piece_bytes.ensures in
     ok_map c.with_floor.result _ _
     (λ made p. call_bound scope c.args.reach c.args.name c.args.arguments.now left right (Some op.Floor) c.args.bounds made two named p)
     c.with_floor.ensures

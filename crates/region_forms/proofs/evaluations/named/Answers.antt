@@ -22,6 +22,6 @@ returns c =
     let loops = c.args.scope.now.loops.now in
     let source = c.args.scope.now.source.now in
     let x = c.args.target.now in
-    let form = c.in_ok-form.ensures ∙ ap (name_form parameters loops) c.span-name.ensures in
+    let form = c.in_ok-form.ensures ∙ ap (name_form parameters loops) c.piece_bytes-name.ensures in
     let value = value_of_name parameters loops _ _ (sum_of source) (out-Target x).subscripts _ (c.if-not-is_empty.ensures.0 refl) form in
     subst (λ t. IsValue parameters loops t (told c.of_form.result)) (sym (ap named_of (target_is source x))) (subst (IsValue parameters loops _) (sym c.of_form.ensures) value)

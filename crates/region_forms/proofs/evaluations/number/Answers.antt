@@ -7,4 +7,4 @@ use Rattle.region_forms.proofs.evaluations.number.Goals as goal
 
 pub returns-in_ok-form-in-Some : goal.returns-in_ok-form-in-Some
 returns-in_ok-form-in-Some c =
-    value_of_integer _ _ _ _ _ (ap (λ b. in_range (pos (value_from 0 b))) (sym c.span.ensures) ∙ sym c.integer.ensures ∙ c.in-Some.is) c.in_ok-form-in-Some.ensures
+    value_of_integer _ _ _ _ _ (ap (λ b. in_range (pos (value_from 0 b))) (sym c.piece_bytes.ensures) ∙ sym c.integer.ensures ∙ c.in-Some.is) c.in_ok-form-in-Some.ensures
