@@ -1,7 +1,9 @@
 //! Small random systems, whose verdicts are held against a search for points.
 
-use crate::test_systems::{Wanted, answers_after, columns, followed, outcome};
-use crate::values::push;
+use crate::test_systems::{
+    Wanted, answers_after, columns, followed, is_found, may_answer_after, outcome,
+};
+use crate::values::{mixed, push};
 use elim_core::decide;
 use relation_core::{Part, RowKind};
 use std::alloc::Global;
@@ -35,13 +37,6 @@ fn line_of(seed: u64) -> Line {
 // A number from -3 to 3.
 fn small(number: u64) -> i8 {
     (number % 7) as i8 - 3
-}
-
-fn mixed(seed: u64) -> u64 {
-    let a = seed.wrapping_add(0x9E37_79B9_7F4A_7C15);
-    let b = (a ^ (a >> 30)).wrapping_mul(0xBF58_476D_1CE4_E5B9);
-    let c = (b ^ (b >> 27)).wrapping_mul(0x94D0_49BB_1331_11EB);
-    (c ^ (c >> 31)) >> 8
 }
 
 // Whether a row holds at a point whose factor is `q`.
@@ -104,6 +99,7 @@ fn agree(rt: &impl Abort, alloc: Global, lines: &[Line], last: Line) -> Result<b
     let system = followed(rt, &base, last.kind, &values(last))?;
     let found = outcome(rt, &system, decide(alloc, &system))?;
     answers_after(rt, &base, &system, found)?;
+    assert!(rt; is_found(&system)?);
     Ok(found == Wanted::Point)
 }
 
@@ -125,5 +121,55 @@ fn near_points(rt: HostRuntime) -> Result<(), Fail> {
         near = near.saturating_add(u32::from(is_near));
     }
     assert!(&rt; near > 0 && points < 300, "{near} near, {points} points");
+    Ok(())
+}
+
+// Each row times a factor.
+fn scaled(line: Line, factor: i128) -> [i128; 3] {
+    let [x, y, constant] = values(line);
+    [
+        x.saturating_mul(factor),
+        y.saturating_mul(factor),
+        constant.saturating_mul(factor),
+    ]
+}
+
+// The system with its first and last rows times a factor has the same outcome in each way, or passes a limit.
+fn agrees_scaled(
+    rt: &impl Abort,
+    alloc: Global,
+    lines: &[Line; 4],
+    factor: i128,
+) -> Result<bool, Fail> {
+    let mut small = columns(alloc, 1, 1);
+    for line in lines {
+        push_line(rt, &mut small, *line)?;
+    }
+    let wanted = outcome(rt, &small, decide(alloc, &small))?;
+    let mut base = columns(alloc, 1, 1);
+    push(rt, &mut base, lines[0].kind, &scaled(lines[0], factor))?;
+    push_line(rt, &mut base, lines[1])?;
+    push_line(rt, &mut base, lines[2])?;
+    let system = followed(rt, &base, lines[3].kind, &scaled(lines[3], factor))?;
+    may_answer_after(rt, &base, &system, wanted)?;
+    Ok(outcome(rt, &system, decide(alloc, &system))? == wanted)
+}
+
+#[test]
+fn large_coefficients(rt: HostRuntime) -> Result<(), Fail> {
+    let mut decided: u32 = 0;
+    for factor in [1 << 60, (1 << 62) - 1, (1 << 63) - 1, i128::MAX / 3] {
+        for seed in 0..40u64 {
+            let lines = [
+                line_of(seed * 4),
+                line_of(seed * 4 + 1),
+                line_of(seed * 4 + 2),
+                line_of(seed * 4 + 3),
+            ];
+            let is_decided = agrees_scaled(&rt, rt.alloc(), &lines, factor)?;
+            decided = decided.saturating_add(u32::from(is_decided));
+        }
+    }
+    assert!(&rt; decided > 80, "{decided} decided");
     Ok(())
 }

@@ -5,9 +5,10 @@ ghost use Rattle.elim_core.specs.Reductions.{BeginsWith};
 
 use crate::values::push;
 use elim_core::{ElimFail, Verdict, decide, decide_by, decide_with, reduce};
-use farkas_cert::check;
+use farkas_cert::{check, check_point};
 use relation_core::{Part, RowKind, Shape};
 use row_core::{DenseRow, Row, SparseRow};
+use simplex_core::{Candidate, search};
 use std::alloc::Global;
 use std::process::Abort;
 use std::test::Fail;
@@ -62,6 +63,21 @@ pub fn outcome(
     }
 }
 
+/// Whether the simplex method finds what a check accepts.
+pub fn is_found(system: &Part) -> Result<bool, Fail> {
+    let candidate = search(system.allocator(), system)?;
+    Ok(is_accepted(system, &candidate))
+}
+
+/// Whether a check accepts what a search has found.
+pub fn is_accepted(system: &Part, candidate: &Candidate) -> bool {
+    match candidate {
+        Candidate::Point(point) => check_point(system, point.as_slice()) == Ok(true),
+        Candidate::Refutation(certificate) => check(system, certificate) == Ok(true),
+        Candidate::Nothing => false,
+    }
+}
+
 /// Each way to decide a system has this outcome.
 pub fn answers(rt: &impl Abort, system: &Part, wanted: Wanted) -> Result<(), Fail> {
     let alloc = system.allocator();
@@ -85,6 +101,26 @@ pub fn answers_after(
     answers(rt, system, wanted)?;
     assert_eq!(rt; shared::<DenseRow>(rt, base, system)?, wanted);
     assert_eq!(rt; shared::<SparseRow>(rt, base, system)?, wanted);
+    Ok(())
+}
+
+/// Each way to decide a system that begins with a base has this outcome or passes 2^127 - 1.
+pub fn may_answer_after(
+    rt: &impl Abort,
+    base: &Part,
+    system: &Part,
+    wanted: Wanted,
+) -> Result<(), Fail>
+    requires { BeginsWith system.now base.now }
+{
+    let alloc = system.allocator();
+    let dense = outcome(rt, system, decide(alloc, system))?;
+    assert!(rt; dense == wanted || dense == Wanted::Overflow);
+    let sparse = outcome(rt, system, decide_by::<SparseRow>(alloc, system))?;
+    assert_eq!(rt; sparse, dense);
+    let shared_dense = shared::<DenseRow>(rt, base, system)?;
+    assert!(rt; shared_dense == wanted || shared_dense == Wanted::Overflow);
+    assert_eq!(rt; shared::<SparseRow>(rt, base, system)?, shared_dense);
     Ok(())
 }
 

@@ -33,3 +33,11 @@ pub fn push(rt: &impl Abort, part: &mut Part, kind: RowKind, values: &[i128]) ->
     part.push_row(kind, row.as_slice())?;
     Ok(())
 }
+
+/// A number that a seed gives.
+pub fn mixed(seed: u64) -> u64 {
+    let a = seed.wrapping_add(0x9E37_79B9_7F4A_7C15);
+    let b = (a ^ (a >> 30)).wrapping_mul(0xBF58_476D_1CE4_E5B9);
+    let c = (b ^ (b >> 27)).wrapping_mul(0x94D0_49BB_1331_11EB);
+    (c ^ (c >> 31)) >> 8
+}
