@@ -1,17 +1,20 @@
 //! Times of the certificate check, of the elimination, of the commands of a script, and of lexing and parsing C, on
-//! standard error.
+//! standard error. The names of files as arguments time the decisions of the systems in them instead.
 //! Standard output says only that the runs ended, so that it is always the same.
 #![tactic(auto)]
 
 mod dice;
+mod file_times;
 mod nests;
 mod regions;
 mod rows;
 mod runs;
 mod scripts;
+mod system_files;
 mod systems;
 mod times;
 
+use file_times::file_times;
 use nests::product;
 use regions::{assignments, statement_count, token_count};
 use runs::{level_times, nest_totals};
@@ -19,20 +22,54 @@ use scripts::script_time;
 use std::process::Abort;
 use std::test::Fail;
 use std::time::Instant;
+use std::{env, fs};
+use system_files::read_systems;
 use times::{check_time, reduction_time};
 
 const ROUNDS: u32 = 1_000;
 
 fn main(rt: HostRuntime) -> Result<(), Fail> {
-    let (spent, light) = check_time(&rt, rt.alloc())?;
+    let mut has_files = false;
+    for name in env::args(&rt)?.skip(1) {
+        time_file(&rt, name.as_str())?;
+        has_files = true;
+    }
+    if !has_files {
+        time_all(&rt)?;
+    }
+    println!(rt; "the runs ended")?;
+    Ok(())
+}
+
+// Times the decisions of the systems of a file.
+fn time_file(rt: &HostRuntime, name: &str) -> Result<(), Fail> {
+    let text = fs::read_to_string(rt, name)?;
+    let systems = read_systems(rt.alloc(), text.as_bytes())?;
+    let t = file_times(rt, rt.alloc(), systems.as_slice())?;
+    eprintln!(rt;
+        "{name}: {} systems, {} with a point, {} empty, {} past a limit",
+        t.systems, t.points, t.empty, t.limits
+    )?;
+    eprintln!(rt;
+        "{name}: decide_by {} us, reduce and decide_with {} us over {} bases",
+        t.alone / 1_000,
+        t.shared / 1_000,
+        t.runs
+    )?;
+    Ok(())
+}
+
+// Times what the program makes itself.
+fn time_all(rt: &HostRuntime) -> Result<(), Fail> {
+    let (spent, light) = check_time(rt, rt.alloc())?;
     eprintln!(rt; "check of 256 rows and 62 columns: {spent} ns, {light} of 1,000 in the range")?;
 
     let base = product(rt.alloc())?;
-    let spent = reduction_time(&rt, rt.alloc(), &base, ROUNDS)?;
+    let spent = reduction_time(rt, rt.alloc(), &base, ROUNDS)?;
     eprintln!(rt; "matrix product: reduce {spent} ns")?;
     for pair in ["WAR 1 4", "RAW 4 1", "WAW 4 4"] {
         for level in 0..3 {
-            let t = level_times(&rt, rt.alloc(), &base, level, ROUNDS)?;
+            let t = level_times(rt, rt.alloc(), &base, level, ROUNDS)?;
             eprintln!(rt;
                 "{pair} level {}: decide {} ns, decide_by {} ns, decide_with {} ns, {}",
                 level + 1,
@@ -44,7 +81,7 @@ fn main(rt: HostRuntime) -> Result<(), Fail> {
         }
     }
 
-    let t = nest_totals(&rt, rt.alloc(), 1_000)?;
+    let t = nest_totals(rt, rt.alloc(), 1_000)?;
     eprintln!(rt;
         "1,000 nests: decide {} us, decide_by {} us, reduce {} us, decide_with {} us",
         t.dense / 1_000,
@@ -57,7 +94,7 @@ fn main(rt: HostRuntime) -> Result<(), Fail> {
         t.points, t.empty, t.limits
     )?;
     for count in [1, 32, 1_024] {
-        let spent = script_time(&rt, rt.alloc(), count)?;
+        let spent = script_time(rt, rt.alloc(), count)?;
         eprintln!(rt;
             "4,096 commands on {count} statements: {} us",
             spent / 1_000
@@ -65,14 +102,13 @@ fn main(rt: HostRuntime) -> Result<(), Fail> {
     }
 
     let text = assignments(rt.alloc())?;
-    let start = Instant::now(&rt)?;
+    let start = Instant::now(rt)?;
     let tokens = token_count(&text);
-    let spent = start.elapsed(&rt)?.as_micros();
+    let spent = start.elapsed(rt)?.as_micros();
     eprintln!(rt; "lexing of 16 MiB of assignments, {tokens} tokens: {spent} us")?;
-    let start = Instant::now(&rt)?;
+    let start = Instant::now(rt)?;
     let statements = statement_count(rt.alloc(), &text);
-    let spent = start.elapsed(&rt)?.as_micros();
+    let spent = start.elapsed(rt)?.as_micros();
     eprintln!(rt; "lexing and parsing of the same, {statements} statements: {spent} us")?;
-    println!(rt; "the runs ended")?;
     Ok(())
 }

@@ -4,7 +4,7 @@ ghost use Rattle.std.specs.Prelude.{◌<◌, ◌≡◌, length, take};
 ghost use Rattle.elim_core.specs.Reductions.{BeginsWith};
 
 use crate::systems::{ones, wide_system};
-use elim_core::{Reduced, Verdict, decide, decide_by, decide_with, reduce};
+use elim_core::{ElimFail, Reduced, Verdict, decide, decide_by, decide_with, reduce};
 use farkas_cert::check;
 use relation_core::Part;
 use row_core::SparseRow;
@@ -113,7 +113,7 @@ pub fn decision_times(
         dense: dense_time(clock, alloc, system, rounds)?,
         sparse: sparse_time(clock, alloc, system, rounds)?,
         shared: shared_time(clock, alloc, base, system, rounds)?,
-        end: end_of(alloc, system),
+        end: end_of(&decide(alloc, system)),
     })
 }
 
@@ -157,9 +157,9 @@ fn shared_time(
     Ok(start.elapsed(clock)?.as_nanos() / u128::from(rounds))
 }
 
-// How the decision of a system ends.
-fn end_of(alloc: Global, system: &Part) -> End {
-    match decide(alloc, system) {
+/// How a decision ends.
+pub fn end_of(decided: &Result<Verdict, ElimFail>) -> End {
+    match decided {
         Ok(Verdict::HasPoint) => End::Point,
         Ok(Verdict::Empty(_)) => End::Empty,
         Err(_) => End::Limit,
