@@ -3,7 +3,7 @@ use Rattle.std.proofs.Common.{◌≡◌, subst, inl, inr, ℕ, zero, suc, ◌<�
 use Rattle.std.specs.Prelude.{true, false, int_lt, int_le, ℤ, pos, Some, None}
 use Rattle.row_core.specs.Rows.{entry}
 use Rattle.relation_core.specs.declared.part_rows.PartRow.{PartRow}
-use Rattle.elim_core.specs.Elimination.{is_zero, is_constant, with_variables, alike, admitted, pruned_onto, tidied, flat_rows, against, crossed, crossing, projected, substituted, substituted_row, first_equality, without_equality, is_equal, refutation_of, is_contradiction, certificate_of}
+use Rattle.elim_core.specs.Elimination.{is_zero, is_constant, with_variables, alike, admitted, pruned_onto, normalised, flat_rows, against, crossed, crossing, projected, substituted, substituted_row, first_equality, without_equality, is_equal, refutation_of, is_contradiction, certificate_of}
 use Rattle.relation_core.specs.Systems.{row_at}
 use Rattle.elim_core.specs.RowLists.{AllRows}
 use Rattle.elim_core.proofs.Tests.{by_bool}
@@ -33,10 +33,10 @@ pub all_pruned : (P : PartRow → Type 0) (n : ℕ) (kept ws : List PartRow) →
 all_pruned P n kept [] p q = p
 all_pruned P n kept (w ∷ ws) p q = all_pruned P n (admitted n kept w) ws (all_admitted P n kept w p q.0) q.1
 
-pub all_tidied : (P : PartRow → Type 0) (n : ℕ) (ws : List PartRow) → AllRows P ws → AllRows P (tidied n ws)
-all_tidied P n ws p = all_pruned P n [] (with_variables n ws) tt (all_with_variables P n ws p)
+pub all_normalised : (P : PartRow → Type 0) (n : ℕ) (ws : List PartRow) → AllRows P ws → AllRows P (normalised n ws)
+all_normalised P n ws p = all_pruned P n [] (with_variables n ws) tt (all_with_variables P n ws p)
 
--- a row that the first look leaves has a variable
+-- a row that is left has a variable
 abbrev pub HasVariables : ℕ → PartRow → Type 0
 HasVariables n w = is_constant n w ≡ false
 
@@ -47,8 +47,8 @@ variables_left n (w ∷ ws) = elim (by_bool (is_constant n w)) [
   | inr e ↦ rw e (e, variables_left n ws)
 ]
 
-pub tidied_variables : (n : ℕ) (ws : List PartRow) → AllRows (HasVariables n) (tidied n ws)
-tidied_variables n ws = all_pruned (HasVariables n) n [] (with_variables n ws) tt (variables_left n ws)
+pub normalised_variables : (n : ℕ) (ws : List PartRow) → AllRows (HasVariables n) (normalised n ws)
+normalised_variables n ws = all_pruned (HasVariables n) n [] (with_variables n ws) tt (variables_left n ws)
 
 pub all_flat : (P Q : PartRow → Type 0) (j : ℕ) (ws : List PartRow) → ((w : PartRow) → P w → is_zero (entry w.entries j) ≡ true → Q w) → AllRows P ws → AllRows Q (flat_rows j ws)
 all_flat P Q j [] h p = tt
@@ -103,7 +103,7 @@ no_equality (o ∷ ws) s = elim (by_bool (is_equal o.kind)) [
   | inr e ↦ let h : first_equality ws ≡ None = rw e at s in (e, no_equality ws h)
 ]
 
--- the first look finds a certificate of some row, or no row is a contradiction
+-- a certificate of some row is found, or no row is a contradiction
 pub at_refutation : (P : PartRow → Type 0) (Q : List ℤ → Type 0) (n : ℕ) (ws : List PartRow) (c : List ℤ) → ((w : PartRow) → P w → is_contradiction n w ≡ true → Q (certificate_of n w)) → refutation_of n ws ≡ Some c → AllRows P ws → Q c
 at_refutation P Q n [] c h s p = cc
 at_refutation P Q n (o ∷ ws) c h s p = elim (by_bool (is_contradiction n o)) [

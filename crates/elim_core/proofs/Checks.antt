@@ -4,7 +4,7 @@ use Rattle.relation_core.specs.declared.part_rows.RowKind.TheVariants.{Equal, At
 use Rattle.relation_core.specs.Systems.{System}
 use Rattle.elim_core.specs.Gcd.{gcd, gcd_within, divided}
 use Rattle.elim_core.specs.Peaks.{column_order, stated, peak}
-use Rattle.elim_core.specs.Marks.{mark}
+use Rattle.elim_core.specs.Keys.{key}
 use Rattle.elim_core.specs.Reductions.{BeginsWith}
 
 -- x - 1 >= 0 and -x >= 0
@@ -62,9 +62,9 @@ lowest_terms : divided (pos 4 ∷ (negsuc 5 ∷ (pos 0 ∷ []))) ≡ pos 2 ∷ (
 unfolding gcd gcd_within
 lowest_terms = refl
 
--- the constant does not matter for a mark, the sign of a coefficient does
-marks : mark 2 (record { kind = AtLeast; entries = pos 1 ∷ (negsuc 1 ∷ (pos 9 ∷ [])) }) ≡ 39
-marks = refl
+-- the constant does not matter for a key, the sign of a coefficient does
+keys : key 2 (record { kind = AtLeast; entries = pos 1 ∷ (negsuc 1 ∷ (pos 9 ∷ [])) }) ≡ 39
+keys = refl
 
 half_begins : BeginsWith half (record half { rows = [] })
 half_begins = record { shape = refl; rows = refl }

@@ -2,7 +2,7 @@
 use Rattle.std.proofs.Common.{◌≡◌, refl, ap, sym, ◌∙◌, ℕ, zero, suc, ◌+◌, ◌≤◌, List, ◌∷◌, length, arith}
 use Rattle.std.specs.Prelude.{Some, None, ℤ}
 use Rattle.relation_core.specs.declared.part_rows.PartRow.{PartRow}
-use Rattle.elim_core.specs.Elimination.{Elimination, after, refutation_of, projected, crossed_weight, tidied, first_equality, without, without_weight, from_columns, from_equalities}
+use Rattle.elim_core.specs.Elimination.{Elimination, after, refutation_of, projected, crossed_weight, normalised, first_equality, without, without_weight, from_columns, from_equalities}
 
 pub record Leads (part whole : Elimination) : Type 0 where
   pub refutation : part.refutation ≡ whole.refutation
@@ -16,7 +16,7 @@ pub leads_trans : {a b c : Elimination} → Leads a b → Leads b c → Leads a 
 leads_trans p q = record { refutation = p.refutation ∙ q.refutation; weight = omega (arith, p.weight, q.weight); count = omega (arith, p.count, q.count) }
 
 -- one column
-pub column_leads : (n j : ℕ) (js : List ℕ) (ws : List PartRow) → refutation_of n (projected j ws) ≡ None → Leads (from_columns n js (tidied n (projected j ws))) (from_columns n (j ∷ js) ws)
+pub column_leads : (n j : ℕ) (js : List ℕ) (ws : List PartRow) → refutation_of n (projected j ws) ≡ None → Leads (from_columns n js (normalised n (projected j ws))) (from_columns n (j ∷ js) ws)
 column_leads n j js ws e = record { refutation = rw e refl; weight = rw e (omega arith); count = rw e (omega arith) }
 
 pub column_ends : (n j : ℕ) (js : List ℕ) (ws : List PartRow) (c : List ℤ) → refutation_of n (projected j ws) ≡ Some c → (from_columns n (j ∷ js) ws).refutation ≡ Some c
@@ -30,10 +30,10 @@ column_count_within n j js ws = omega arith
 
 -- one equality
 equality_step : (n m : ℕ) (js : List ℕ) (e : PartRow) (ws : List PartRow) → first_equality ws ≡ Some e → refutation_of n (without n e ws) ≡ None
-    → from_equalities n js (suc m) ws ≡ after (without_weight n e ws) 0 (from_equalities n js m (tidied n (without n e ws)))
+    → from_equalities n js (suc m) ws ≡ after (without_weight n e ws) 0 (from_equalities n js m (normalised n (without n e ws)))
 equality_step n m js e ws f r = rw (f, from_equalities) (rw r refl)
 
-pub equality_leads : (n m k : ℕ) (js : List ℕ) (e : PartRow) (ws : List PartRow) → m ≡ k + 1 → first_equality ws ≡ Some e → refutation_of n (without n e ws) ≡ None → Leads (from_equalities n js k (tidied n (without n e ws))) (from_equalities n js m ws)
+pub equality_leads : (n m k : ℕ) (js : List ℕ) (e : PartRow) (ws : List PartRow) → m ≡ k + 1 → first_equality ws ≡ Some e → refutation_of n (without n e ws) ≡ None → Leads (from_equalities n js k (normalised n (without n e ws))) (from_equalities n js m ws)
 equality_leads n zero k js e ws l f r = absurd (omega arith)
 equality_leads n (suc m) k js e ws l f r =
     let h : m ≡ k = omega arith in

@@ -4,7 +4,7 @@ use Rattle.std.specs.Prelude.{Some, int_le}
 use Rattle.std.proofs.lemmas.List.{length-append}
 use Rattle.row_core.specs.Rows.{entry}
 use Rattle.relation_core.specs.declared.part_rows.PartRow.{PartRow}
-use Rattle.elim_core.specs.Elimination.{is_equal, is_constant, with_variables, alike, admitted, pruned_onto, tidied, first_equality, without_equality, substituted}
+use Rattle.elim_core.specs.Elimination.{is_equal, is_constant, with_variables, alike, admitted, pruned_onto, normalised, first_equality, without_equality, substituted}
 use Rattle.elim_core.proofs.Tests.{by_bool}
 
 length_with_variables : (n : ℕ) (ws : List PartRow) → length (with_variables n ws) ≤ length ws
@@ -28,8 +28,8 @@ length_pruned : (n : ℕ) (kept ws : List PartRow) → length (pruned_onto n kep
 length_pruned n kept [] = omega arith
 length_pruned n kept (w ∷ ws) = omega (arith, length_pruned n (admitted n kept w) ws, length_admitted n kept w)
 
-pub length_tidied : (n : ℕ) (ws : List PartRow) → length (tidied n ws) ≤ length ws
-length_tidied n ws = omega (arith, length_pruned n [] (with_variables n ws), length_with_variables n ws)
+pub length_normalised : (n : ℕ) (ws : List PartRow) → length (normalised n ws) ≤ length ws
+length_normalised n ws = omega (arith, length_pruned n [] (with_variables n ws), length_with_variables n ws)
 
 pub length_substituted : (j : ℕ) (e : PartRow) (ws : List PartRow) → length (substituted j e ws) ≡ length ws
 length_substituted j e [] = refl

@@ -11,7 +11,7 @@ use Rattle.relation_core.specs.declared.part_rows.RowKind.TheVariants.{Equal, At
 use Rattle.relation_core.specs.Points.{Meets, MeetsAll, HasPoint}
 use Rattle.farkas_cert.proofs.Laws.{constant_row}
 use Rattle.elim_core.specs.Gcd.{divided}
-use Rattle.elim_core.specs.Elimination.{is_zero, same_cells, is_equal, is_constant, is_contradiction, fails, with_variables, alike, admitted, pruned_onto, tidied}
+use Rattle.elim_core.specs.Elimination.{is_zero, same_cells, is_equal, is_constant, is_contradiction, fails, with_variables, alike, admitted, pruned_onto, normalised}
 use Rattle.elim_core.proofs.Tests.{by_bool, zero_is, all_zero_is, same_cells_is}
 use Rattle.elim_core.proofs.Quotients.{divided_is}
 use Rattle.elim_core.proofs.Derived.{cancel_zero}
@@ -37,7 +37,7 @@ pub meets_append : (a b : List PartRow) (v : List ℤ) → MeetsAll (a ++ b) v �
 meets_append [] b v m = (tt, m)
 meets_append (w ∷ a) b v m = let r = meets_append a b v m.1 in ((m.0, r.0), r.1)
 
--- Look and prune.
+-- Contradictions and pruning.
 
 -- a row's value is that of its variables and its constant
 pub dot_split : (cs x : List ℤ) (q : ℤ) → dot cs (x ++ (q ∷ [])) ≡ dot (take (length x) cs) x +ℤ (entry cs (length x) *ℤ q)
@@ -133,18 +133,18 @@ from_pruned kept (w ∷ ws) x q p m =
     let s = from_admitted kept w x q p r.0 in
     (s.0, (s.1, r.1))
 
-pub from_tidied_at : (ws : List PartRow) (x : List ℤ) (q : ℤ) → pos 1 ≤ℤ q → AllRows (λ w. is_contradiction (length x) w ≡ false) ws → MeetsAll (tidied (length x) ws) (x ++ (q ∷ [])) → MeetsAll ws (x ++ (q ∷ []))
-from_tidied_at ws x q p f m = from_variables ws x q p f (from_pruned [] (with_variables (length x) ws) x q p m).1
+pub from_normalised_at : (ws : List PartRow) (x : List ℤ) (q : ℤ) → pos 1 ≤ℤ q → AllRows (λ w. is_contradiction (length x) w ≡ false) ws → MeetsAll (normalised (length x) ws) (x ++ (q ∷ [])) → MeetsAll ws (x ++ (q ∷ []))
+from_normalised_at ws x q p f m = from_variables ws x q p f (from_pruned [] (with_variables (length x) ws) x q p m).1
 
-pub from_tidied : (n : ℕ) (ws : List PartRow) → AllRows (λ w. is_contradiction n w ≡ false) ws → HasPoint n (tidied n ws) → HasPoint n ws
-from_tidied n ws f h = record {
+pub from_normalised : (n : ℕ) (ws : List PartRow) → AllRows (λ w. is_contradiction n w ≡ false) ws → HasPoint n (normalised n ws) → HasPoint n ws
+from_normalised n ws f h = record {
   at = h.at;
   factor = h.factor;
   length_is = h.length_is;
   point = record {
     positive = h.point.positive;
-    meets = from_tidied_at ws h.at h.factor h.point.positive
+    meets = from_normalised_at ws h.at h.factor h.point.positive
         (subst (λ (k : ℕ). AllRows (λ w. is_contradiction k w ≡ false) ws) (sym h.length_is) f)
-        (subst (λ (k : ℕ). MeetsAll (tidied k ws) (h.at ++ (h.factor ∷ []))) (sym h.length_is) h.point.meets);
+        (subst (λ (k : ℕ). MeetsAll (normalised k ws) (h.at ++ (h.factor ∷ []))) (sym h.length_is) h.point.meets);
   };
 }

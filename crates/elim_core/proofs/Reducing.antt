@@ -10,16 +10,16 @@ use Rattle.relation_core.specs.declared.part_rows.RowKind.{RowKind}
 use Rattle.relation_core.specs.declared.part_rows.RowKind.TheVariants.{Equal, AtLeast}
 use Rattle.relation_core.specs.Points.{Meets, MeetsAll}
 use Rattle.elim_core.specs.Gcd.{divided}
-use Rattle.elim_core.specs.Elimination.{is_zero, is_equal, is_contradiction, refutation_of, tidied, first_equality, without_equality, last_variable, turned, substituted_row, substituted}
+use Rattle.elim_core.specs.Elimination.{is_zero, is_equal, is_contradiction, refutation_of, normalised, first_equality, without_equality, last_variable, turned, substituted_row, substituted}
 use Rattle.elim_core.specs.Multipliers.{Derived}
 use Rattle.elim_core.specs.RowLists.{AllRows, Wide}
 use Rattle.elim_core.specs.Reductions.{Reduces, Relieved}
 use Rattle.elim_core.proofs.Tests.{by_bool}
-use Rattle.elim_core.proofs.AllRows.{all_append, all_tidied, no_refutation, all_substituted, all_without_equality, at_first_equality}
+use Rattle.elim_core.proofs.AllRows.{all_append, all_normalised, no_refutation, all_substituted, all_without_equality, at_first_equality}
 use Rattle.elim_core.proofs.Derived.{substituted_derived}
-use Rattle.elim_core.proofs.Points.{meets_untimes, meets_divided, meets_append, from_tidied_at}
+use Rattle.elim_core.proofs.Points.{meets_untimes, meets_divided, meets_append, from_normalised_at}
 use Rattle.elim_core.proofs.Back.{kind_stays, unsigned_positive, with_equality}
-use Rattle.elim_core.proofs.Widths.{substituted_wide, wide_tidied}
+use Rattle.elim_core.proofs.Widths.{substituted_wide, wide_normalised}
 use Rattle.elim_core.proofs.Lengths.{length_substituted, length_without}
 use Rattle.elim_core.proofs.Whole.{last_is}
 
@@ -112,13 +112,13 @@ pub turned_on : (n width : ℕ) (rows done rest after : List PartRow) (e : PartR
     → Reduces n rows ((done ++ (e ∷ [])) ++ after)
 turned_on n width rows done rest after e g f w r = reduces_trans n rows (done ++ rest) ((done ++ (e ∷ [])) ++ after) g (turn n width done rest after e f w r)
 
--- where no row is a contradiction, look and prune lose nothing
-pub tidied_reduces : (n : ℕ) (ws : List PartRow) → refutation_of n ws ≡ None → Reduces n ws (tidied n ws)
-tidied_reduces n ws e = record {
-  widths = λ width w. wide_tidied width n ws w;
-  derives = λ base d. all_tidied (Derived n base) n ws d;
+-- where no row is a contradiction, normalising loses nothing
+pub normalised_reduces : (n : ℕ) (ws : List PartRow) → refutation_of n ws ≡ None → Reduces n ws (normalised n ws)
+normalised_reduces n ws e = record {
+  widths = λ width w. wide_normalised width n ws w;
+  derives = λ base d. all_normalised (Derived n base) n ws d;
   keeps = λ x q l p m.
-      from_tidied_at ws x q p
+      from_normalised_at ws x q p
       (subst (λ (k : ℕ). AllRows (λ w. is_contradiction k w ≡ false) ws) (sym l) (no_refutation n ws e))
-      (subst (λ (k : ℕ). MeetsAll (tidied k ws) (x ++ (q ∷ []))) (sym l) m);
+      (subst (λ (k : ℕ). MeetsAll (normalised k ws) (x ++ (q ∷ []))) (sym l) m);
 }

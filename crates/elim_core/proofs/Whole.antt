@@ -12,17 +12,17 @@ use Rattle.relation_core.specs.Points.{HasPoint}
 use Rattle.farkas_cert.specs.Certificates.{Valid}
 use Rattle.farkas_cert.proofs.Laws.{entry_scale}
 use Rattle.elim_core.specs.Gcd.{divided}
-use Rattle.elim_core.specs.Elimination.{is_zero, all_zero, refutation_of, without, tidied, first_equality, without_equality, last_variable, substituted, crossing, projected, started, from_columns, from_equalities, from_rows, elimination, In, Covers, Below}
+use Rattle.elim_core.specs.Elimination.{is_zero, all_zero, refutation_of, without, normalised, first_equality, without_equality, last_variable, substituted, crossing, projected, started, from_columns, from_equalities, from_rows, elimination, In, Covers, Below}
 use Rattle.elim_core.proofs.Tests.{by_bool, zero_is, all_zero_is, all_zero_test}
 use Rattle.elim_core.proofs.Quotients.{divided_is}
 use Rattle.elim_core.proofs.Algebra.{entry_combined}
 use Rattle.elim_core.specs.RowLists.{AllRows, Wide}
-use Rattle.elim_core.proofs.AllRows.{all_tidied, all_projected, all_substituted, all_without_equality, HasVariables, tidied_variables, at_first_equality, no_equality, at_refutation, no_refutation}
+use Rattle.elim_core.proofs.AllRows.{all_normalised, all_projected, all_substituted, all_without_equality, HasVariables, normalised_variables, at_first_equality, no_equality, at_refutation, no_refutation}
 use Rattle.elim_core.proofs.Derived.{Derived, crossing_derived, substituted_derived, contradiction_valid, cancel_zero}
-use Rattle.elim_core.proofs.Points.{from_tidied}
+use Rattle.elim_core.proofs.Points.{from_normalised}
 use Rattle.elim_core.proofs.Back.{IsInequality, from_substituted, from_projected}
 use Rattle.elim_core.proofs.Started.{started_derived, length_started, from_started}
-use Rattle.elim_core.proofs.Lengths.{length_tidied, length_substituted, length_without}
+use Rattle.elim_core.proofs.Lengths.{length_normalised, length_substituted, length_without}
 
 pub by_option : {X : Type 0} (o : Option X) → ((x : X) × (o ≡ Some x)) ⊎ (o ≡ None)
 by_option (Some x) = inl (x, refl)
@@ -88,12 +88,12 @@ pub record Ready (n : ℕ) (rows : List PartRow) (js : List ℕ) (ws : List Part
 projected_derived : (n : ℕ) (rows : List PartRow) (j : ℕ) (ws : List PartRow) → AllRows (Derived n rows) ws → AllRows (Derived n rows) (projected j ws)
 projected_derived n rows j ws d = all_projected (Derived n rows) (Derived n rows) j ws (λ w p z. p) (λ p q dp dq lp lq. crossing_derived n rows j p q dp dq lp lq) d
 
-next_ready : (n : ℕ) (rows : List PartRow) (j : ℕ) (js : List ℕ) (ws : List PartRow) → Ready n rows (j ∷ js) ws → Ready n rows js (tidied n (projected j ws))
+next_ready : (n : ℕ) (rows : List PartRow) (j : ℕ) (js : List ℕ) (ws : List PartRow) → Ready n rows (j ∷ js) ws → Ready n rows js (normalised n (projected j ws))
 next_ready n rows j js ws r = record {
-  derived = all_tidied (Derived n rows) n (projected j ws) (projected_derived n rows j ws r.derived);
-  inequalities = all_tidied IsInequality n (projected j ws) (all_projected IsInequality IsInequality j ws (λ w p z. p) (λ p q dp dq lp lq. refl) r.inequalities);
-  variables = tidied_variables n (projected j ws);
-  gone = all_tidied (Gone n js) n (projected j ws) (all_projected (λ w. Derived n rows w × Gone n (j ∷ js) w) (Gone n js) j ws
+  derived = all_normalised (Derived n rows) n (projected j ws) (projected_derived n rows j ws r.derived);
+  inequalities = all_normalised IsInequality n (projected j ws) (all_projected IsInequality IsInequality j ws (λ w p z. p) (λ p q dp dq lp lq. refl) r.inequalities);
+  variables = normalised_variables n (projected j ws);
+  gone = all_normalised (Gone n js) n (projected j ws) (all_projected (λ w. Derived n rows w × Gone n (j ∷ js) w) (Gone n js) j ws
       (λ w p z. flat_gone n j js w p.1 z)
       (λ p q dp dq lp lq. crossing_gone n j js p q (dp.0.width ∙ sym dq.0.width) dp.1 dq.1 lq)
       (all_both (Derived n rows) (Gone n (j ∷ js)) ws r.derived r.gone));
@@ -110,9 +110,9 @@ columns_solved n rows [] [] r e = record { at = replicate n (pos 0); factor = po
 columns_solved n rows [] (w ∷ ws) r e = absurd (no_rows_left n w r.variables.0 r.gone.0)
 columns_solved n rows (j ∷ js) ws r e = elim (by_option (refutation_of n (projected j ws))) [
   | inl c ↦ let f : Some c.0 ≡ None = rw c.1 at e in cc
-  | inr c ↦ let f : (from_columns n js (tidied n (projected j ws))).refutation ≡ None = rw c at e in
+  | inr c ↦ let f : (from_columns n js (normalised n (projected j ws))).refutation ≡ None = rw c at e in
       from_projected n (n + 1 + length rows) j ws r.below.0 r.inequalities (wide_of n rows ws r.derived)
-      (from_tidied n (projected j ws) (no_refutation n (projected j ws) c) (columns_solved n rows js (tidied n (projected j ws)) (next_ready n rows j js ws r) f))
+      (from_normalised n (projected j ws) (no_refutation n (projected j ws) c) (columns_solved n rows js (normalised n (projected j ws)) (next_ready n rows j js ws r) f))
 ]
 
 pub columns_refuted : (n : ℕ) (rows : List PartRow) (js : List ℕ) (ws : List PartRow) (cert : List ℤ) → AllRows (Derived n rows) ws → (from_columns n js ws).refutation ≡ Some cert → Valid n rows cert
@@ -121,8 +121,8 @@ columns_refuted n rows (j ∷ js) ws cert d e = elim (by_option (refutation_of n
   | inl c ↦ let f : Some c.0 ≡ Some cert = rw c.1 at e in
       let g : c.0 ≡ cert = cc in
       subst (Valid n rows) g (valid_refutation n rows (projected j ws) c.0 c.1 (projected_derived n rows j ws d))
-  | inr c ↦ let f : (from_columns n js (tidied n (projected j ws))).refutation ≡ Some cert = rw c at e in
-      columns_refuted n rows js (tidied n (projected j ws)) cert (all_tidied (Derived n rows) n (projected j ws) (projected_derived n rows j ws d)) f
+  | inr c ↦ let f : (from_columns n js (normalised n (projected j ws))).refutation ≡ Some cert = rw c at e in
+      columns_refuted n rows js (normalised n (projected j ws)) cert (all_normalised (Derived n rows) n (projected j ws) (projected_derived n rows j ws d)) f
 ]
 
 -- The equalities.
@@ -176,16 +176,16 @@ equalities_solved n rows js (suc more) ws l c b d v r = elim (by_option (first_e
       elim (by_option (refutation_of n (without n e.0 ws))) [
         | inl a ↦ let f : Some a.0 ≡ None = rw a.1 at (rw (e.1, from_equalities) at r) in cc
         | inr a ↦
-            let f : (from_equalities n js more (tidied n (without n e.0 ws))).refutation ≡ None = rw a at (rw (e.1, from_equalities) at r) in
+            let f : (from_equalities n js more (normalised n (without n e.0 ws))).refutation ≡ None = rw a at (rw (e.1, from_equalities) at r) in
             let s = substituted_all_derived n rows ws (last_variable n e.0.entries) e.0 e.1 d in
-            let k : length (tidied n (without n e.0 ws)) ≤ more =
-            omega (arith, length_tidied n (without n e.0 ws), length_substituted (last_variable n e.0.entries) e.0 (without_equality ws), length_without ws e.0 e.1) in
+            let k : length (normalised n (without n e.0 ws)) ≤ more =
+            omega (arith, length_normalised n (without n e.0 ws), length_substituted (last_variable n e.0.entries) e.0 (without_equality ws), length_without ws e.0 e.1) in
             from_substituted n (n + 1 + length rows) (last_variable n e.0.entries) e.0 ws e.1 h.1 g.entry_is g.below h.0.0.width
             (all_without_equality (Wide (n + 1 + length rows)) ws (wide_of n rows ws d))
-            (from_tidied n (without n e.0 ws) (no_refutation n (without n e.0 ws) a)
-            (equalities_solved n rows js more (tidied n (without n e.0 ws)) k c b
-            (all_tidied (Derived n rows) n (without n e.0 ws) s)
-            (tidied_variables n (without n e.0 ws)) f))
+            (from_normalised n (without n e.0 ws) (no_refutation n (without n e.0 ws) a)
+            (equalities_solved n rows js more (normalised n (without n e.0 ws)) k c b
+            (all_normalised (Derived n rows) n (without n e.0 ws) s)
+            (normalised_variables n (without n e.0 ws)) f))
       ]
   | inr e ↦ let f : (from_columns n js ws).refutation ≡ None = rw (e, from_equalities) at r in
       columns_solved n rows js ws (columns_ready n rows js ws c b d v e) f
@@ -201,9 +201,9 @@ equalities_refuted n rows js (suc more) ws cert d r = elim (by_option (first_equ
             let g : a.0 ≡ cert = cc in
             subst (Valid n rows) g (valid_refutation n rows (without n e.0 ws) a.0 a.1 s)
         | inr a ↦
-            let f : (from_equalities n js more (tidied n (without n e.0 ws))).refutation ≡ Some cert = rw a at (rw (e.1, from_equalities) at r) in
-            equalities_refuted n rows js more (tidied n (without n e.0 ws)) cert
-            (all_tidied (Derived n rows) n (without n e.0 ws) s) f
+            let f : (from_equalities n js more (normalised n (without n e.0 ws))).refutation ≡ Some cert = rw a at (rw (e.1, from_equalities) at r) in
+            equalities_refuted n rows js more (normalised n (without n e.0 ws)) cert
+            (all_normalised (Derived n rows) n (without n e.0 ws) s) f
       ]
   | inr e ↦ let f : (from_columns n js ws).refutation ≡ Some cert = rw (e, from_equalities) at r in
       columns_refuted n rows js ws cert d f
@@ -215,10 +215,10 @@ pub rows_solved : (n : ℕ) (rows : List PartRow) (js : List ℕ) (most : ℕ) (
 rows_solved n rows js most ws l c b d r = elim (by_option (refutation_of n ws)) [
   | inl a ↦ let f : Some a.0 ≡ None = rw (a.1, from_rows) at r in cc
   | inr a ↦
-      let f : (from_equalities n js most (tidied n ws)).refutation ≡ None = rw (a, from_rows) at r in
-      let k : length (tidied n ws) ≤ most = omega (arith, length_tidied n ws) in
-      from_tidied n ws (no_refutation n ws a)
-      (equalities_solved n rows js most (tidied n ws) k c b (all_tidied (Derived n rows) n ws d) (tidied_variables n ws) f)
+      let f : (from_equalities n js most (normalised n ws)).refutation ≡ None = rw (a, from_rows) at r in
+      let k : length (normalised n ws) ≤ most = omega (arith, length_normalised n ws) in
+      from_normalised n ws (no_refutation n ws a)
+      (equalities_solved n rows js most (normalised n ws) k c b (all_normalised (Derived n rows) n ws d) (normalised_variables n ws) f)
 ]
 
 pub rows_refuted : (n : ℕ) (rows : List PartRow) (js : List ℕ) (most : ℕ) (ws : List PartRow) (cert : List ℤ) → AllRows (Derived n rows) ws → (from_rows n js most ws).refutation ≡ Some cert → Valid n rows cert
@@ -226,8 +226,8 @@ rows_refuted n rows js most ws cert d r = elim (by_option (refutation_of n ws)) 
   | inl a ↦ let f : Some a.0 ≡ Some cert = rw (a.1, from_rows) at r in
       let g : a.0 ≡ cert = cc in
       subst (Valid n rows) g (valid_refutation n rows ws a.0 a.1 d)
-  | inr a ↦ let f : (from_equalities n js most (tidied n ws)).refutation ≡ Some cert = rw (a, from_rows) at r in
-      equalities_refuted n rows js most (tidied n ws) cert (all_tidied (Derived n rows) n ws d) f
+  | inr a ↦ let f : (from_equalities n js most (normalised n ws)).refutation ≡ Some cert = rw (a, from_rows) at r in
+      equalities_refuted n rows js most (normalised n ws) cert (all_normalised (Derived n rows) n ws d) f
 ]
 
 pub elimination_solved : (n : ℕ) (js : List ℕ) (rows : List PartRow) → AllRows (Wide (n + 1)) rows → Covers n js → Below n js → (elimination n js rows).refutation ≡ None → HasPoint n rows

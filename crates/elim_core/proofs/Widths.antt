@@ -5,11 +5,11 @@ use Rattle.std.proofs.lemmas.List.{length-append}
 use Rattle.row_core.specs.Rows.{entry, combined}
 use Rattle.relation_core.specs.declared.part_rows.PartRow.{PartRow}
 use Rattle.elim_core.specs.RowLists.{AllRows, Wide}
-use Rattle.elim_core.specs.Elimination.{is_zero, crossing, projected, tidied, turned, substituted_row, without_equality, last_variable, without, started, started_from, unit}
+use Rattle.elim_core.specs.Elimination.{is_zero, crossing, projected, normalised, turned, substituted_row, without_equality, last_variable, without, started, started_from, unit}
 use Rattle.elim_core.proofs.Tests.{by_bool}
 use Rattle.elim_core.proofs.Quotients.{length_divided}
 use Rattle.elim_core.proofs.Algebra.{length_combined}
-use Rattle.elim_core.proofs.AllRows.{all_projected, all_tidied, all_substituted, all_without_equality}
+use Rattle.elim_core.proofs.AllRows.{all_projected, all_normalised, all_substituted, all_without_equality}
 use Rattle.elim_core.proofs.Started.{length_unit}
 
 crossing_wide : (width j : ℕ) (p q : PartRow) → Wide width p → Wide width q → Wide width (crossing j p q)
@@ -20,8 +20,8 @@ crossing_wide width j p q a b =
 pub wide_projected : (width j : ℕ) (ws : List PartRow) → AllRows (Wide width) ws → AllRows (Wide width) (projected j ws)
 wide_projected width j ws a = all_projected (Wide width) (Wide width) j ws (λ w p z. p) (λ p q a b l m. crossing_wide width j p q a b) a
 
-pub wide_tidied : (width n : ℕ) (ws : List PartRow) → AllRows (Wide width) ws → AllRows (Wide width) (tidied n ws)
-wide_tidied width n ws a = all_tidied (Wide width) n ws a
+pub wide_normalised : (width n : ℕ) (ws : List PartRow) → AllRows (Wide width) ws → AllRows (Wide width) (normalised n ws)
+wide_normalised width n ws a = all_normalised (Wide width) n ws a
 
 pub substituted_wide : (width j : ℕ) (e w : PartRow) → Wide width e → Wide width w → Wide width (substituted_row j e w)
 substituted_wide width j e w a b = elim (by_bool (is_zero (entry w.entries j))) [

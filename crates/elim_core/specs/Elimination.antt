@@ -38,7 +38,7 @@ started_from m i (r ∷ rows) = (record { kind = r.kind; entries = r.entries ++ 
 abbrev pub started : List PartRow → List PartRow
 started rows = started_from (length rows) 0 rows
 
--- Look.
+-- Contradictions.
 
 -- a row of n variables has none of them
 abbrev pub is_constant : ℕ → PartRow → Bool
@@ -56,7 +56,7 @@ is_contradiction n w = cond (is_constant n w) (fails w.kind (entry w.entries n))
 abbrev pub certificate_of : ℕ → PartRow → List ℤ
 certificate_of n w = cond (int_lt (pos 0) (entry w.entries n)) (map neg_ℤ (drop (n + 1) w.entries)) (drop (n + 1) w.entries)
 
--- look: the certificate of the first contradiction
+-- the certificate of the first contradiction
 abbrev pub refutation_of : ℕ → List PartRow → Option (List ℤ)
 refutation_of n [] = None
 refutation_of n (w ∷ ws) = cond (is_contradiction n w) (Some (certificate_of n w)) (refutation_of n ws)
@@ -81,9 +81,9 @@ abbrev pub pruned_onto : ℕ → List PartRow → List PartRow → List PartRow
 pruned_onto n kept [] = kept
 pruned_onto n kept (w ∷ ws) = pruned_onto n (admitted n kept w) ws
 
--- the rows that stay after look and prune
-abbrev pub tidied : ℕ → List PartRow → List PartRow
-tidied n ws = pruned_onto n [] (with_variables n ws)
+-- the rows that stay: those that have variables, pruned
+abbrev pub normalised : ℕ → List PartRow → List PartRow
+normalised n ws = pruned_onto n [] (with_variables n ws)
 
 -- Substitute.
 
@@ -173,7 +173,7 @@ ends_with r = record { refutation = r; weight = 0; count = 0 }
 -- from rows without equalities: the columns are projected in turn
 abbrev pub from_columns : ℕ → List ℕ → List PartRow → Elimination
 from_columns n [] ws = ends_with None
-from_columns n (j ∷ js) ws = after (crossed_weight j ws ws) (length (projected j ws)) (elim (refutation_of n (projected j ws)) [ Some certificate ↦ ends_with (Some certificate) | None ↦ from_columns n js (tidied n (projected j ws)) ])
+from_columns n (j ∷ js) ws = after (crossed_weight j ws ws) (length (projected j ws)) (elim (refutation_of n (projected j ws)) [ Some certificate ↦ ends_with (Some certificate) | None ↦ from_columns n js (normalised n (projected j ws)) ])
 
 -- the rows after the substitution of an equality
 abbrev pub without : ℕ → PartRow → List PartRow → List PartRow
@@ -185,11 +185,11 @@ without_weight n e ws = substituted_weight (last_variable n e.entries) e (withou
 -- the equalities are substituted in turn, at most the given number of them, then the columns projected
 abbrev pub from_equalities : ℕ → List ℕ → ℕ → List PartRow → Elimination
 from_equalities n columns zero ws = from_columns n columns ws
-from_equalities n columns (suc more) ws = elim (first_equality ws) [ None ↦ from_columns n columns ws | Some e ↦ after (without_weight n e ws) 0 (elim (refutation_of n (without n e ws)) [ Some certificate ↦ ends_with (Some certificate) | None ↦ from_equalities n columns more (tidied n (without n e ws)) ]) ]
+from_equalities n columns (suc more) ws = elim (first_equality ws) [ None ↦ from_columns n columns ws | Some e ↦ after (without_weight n e ws) 0 (elim (refutation_of n (without n e ws)) [ Some certificate ↦ ends_with (Some certificate) | None ↦ from_equalities n columns more (normalised n (without n e ws)) ]) ]
 
--- from any working rows: look and prune come once before the rest
+-- from any working rows: they are searched for a contradiction and normalised once before the rest
 abbrev pub from_rows : ℕ → List ℕ → ℕ → List PartRow → Elimination
-from_rows n columns most ws = elim (refutation_of n ws) [ Some certificate ↦ ends_with (Some certificate) | None ↦ from_equalities n columns most (tidied n ws) ]
+from_rows n columns most ws = elim (refutation_of n ws) [ Some certificate ↦ ends_with (Some certificate) | None ↦ from_equalities n columns most (normalised n ws) ]
 
 -- the stated elimination of a system of n variables, whose columns are projected in the given order
 abbrev pub elimination : ℕ → List ℕ → List PartRow → Elimination

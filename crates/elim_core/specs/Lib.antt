@@ -1,7 +1,7 @@
 pub mod Gcd
 pub mod Elimination
 pub mod RowLists
-pub mod Marks
+pub mod Keys
 pub mod Multipliers
 pub mod Reductions
 pub mod Causes

@@ -1,22 +1,22 @@
 //! The two phases of the elimination: the equalities are substituted in turn, then the columns are
-//! projected in turn. After each step a contradiction ends it, and else the rows are pruned.
+//! projected in turn. After each step a contradiction ends it, and else the rows are normalised.
 
 ghost use Rattle.std.specs.Prelude.{◌≡◌, ◌<◌, ◌≤◌, ◌^◌, length, remove, Some, None, IfOk, IfErr};
 ghost use Rattle.relation_core.specs.Systems.{row_at};
 ghost use Rattle.elim_core.specs.Elimination.{first_equality, without_equality, without, without_weight, from_columns, from_equalities, from_rows, Below};
 ghost use Rattle.elim_core.specs.RowLists.{AllRows, Wide};
 
+use crate::normalising::normalise;
 use crate::projections::project;
-use crate::refutations::look;
+use crate::refutations::contradiction;
 use crate::substitutions::{find_equality, substitute};
-use crate::tidying::tidy;
 use crate::verdicts::ElimFail;
 use crate::working_rows::{WorkingRow, last_variable};
 use farkas_cert::Certificate;
 use row_core::Row;
 use std::alloc::Global;
 
-/// Looks and prunes, substitutes the equalities, at most `most` of them, and then projects `columns`.
+/// Normalises, substitutes the equalities, at most `most` of them, and then projects `columns`.
 pub fn from_rows<R: Row>(
     alloc: Global,
     n: usize,
@@ -32,12 +32,12 @@ pub fn from_rows<R: Row>(
     ensures overflow { IfErr result (λ fail. fail ≡ ElimFail.Overflow → 2 ^ 127 ≤ (from_rows n columns.now most rows.items).weight) }
     ensures rows { IfErr result (λ fail. fail ≡ ElimFail.TooManyRows → 16384 < (from_rows n columns.now most rows.items).count) }
 {
-    match look(alloc, n, width, rows.as_slice())? {
+    match contradiction(alloc, n, width, rows.as_slice())? {
         Some(certificate) => return Ok(Some(certificate)),
         None => {}
     }
-    let tidied = tidy(alloc, n, width, rows)?;
-    from_equalities(alloc, n, width, columns, most, tidied)
+    let normalised = normalise(alloc, n, width, rows)?;
+    from_equalities(alloc, n, width, columns, most, normalised)
 }
 
 // Substitutes the equalities, at most `most` of them, and then projects `columns`.
@@ -64,11 +64,11 @@ fn from_equalities<R: Row>(
         };
         left -= 1;
         let made = substitute_at(alloc, n, width, k, rows)?;
-        match look(alloc, n, width, made.as_slice())? {
+        match contradiction(alloc, n, width, made.as_slice())? {
             Some(certificate) => return Ok(Some(certificate)),
             None => {}
         }
-        rows = tidy(alloc, n, width, made)?;
+        rows = normalise(alloc, n, width, made)?;
     }
     from_columns(alloc, n, width, columns, rows)
 }
@@ -113,10 +113,10 @@ fn from_columns<R: Row>(
     let mut rows = rows;
     for j in columns {
         let made = project(alloc, *j, width, rows)?;
-        if let Some(certificate) = look(alloc, n, width, made.as_slice())? {
+        if let Some(certificate) = contradiction(alloc, n, width, made.as_slice())? {
             return Ok(Some(certificate));
         }
-        rows = tidy(alloc, n, width, made)?;
+        rows = normalise(alloc, n, width, made)?;
     }
     Ok(None)
 }

@@ -6,9 +6,9 @@ ghost use Rattle.elim_core.specs.RowLists.{AllRows, Wide};
 ghost use Rattle.elim_core.specs.Reductions.{BeginsWith, IsReduction, Reduces, Relieved, widened};
 
 use crate::counts::{row_count, variable_count};
+use crate::normalising::{find_contradiction, normalise};
 use crate::starts::{start, start_from};
 use crate::substitutions::{substitute_copies, take_equality};
-use crate::tidying::{find_contradiction, tidy};
 use crate::verdicts::ElimFail;
 use crate::working_rows::{WorkingRow, is_constant, last_variable};
 use relation_core::Part;
@@ -75,7 +75,7 @@ pub fn reduce<R: Row>(alloc: Global, base: &Part) -> Result<Reduced<R>, NoMemory
     let width = n + 1 + row_count(base);
     let started = start::<R>(alloc, base)?;
     let relieved = relieve_all(alloc, n, width, started)?;
-    let rows = tidy_sound(alloc, n, width, relieved)?;
+    let rows = normalise_sound(alloc, n, width, relieved)?;
     let base = copied(alloc, base)?;
     Ok(Reduced { base, rows })
 }
@@ -90,7 +90,7 @@ fn copied(alloc: Global, part: &Part) -> Result<Part, NoMemory>
 }
 
 // The rows that have variables, pruned; the same rows where one of them is a contradiction.
-fn tidy_sound<R: Row>(
+fn normalise_sound<R: Row>(
     alloc: Global,
     n: usize,
     width: usize,
@@ -103,7 +103,7 @@ fn tidy_sound<R: Row>(
     match find_contradiction(n, width, rows.as_slice()) {
         Some(_) => Ok(rows),
         None => {
-            let kept = tidy(alloc, n, width, rows)?;
+            let kept = normalise(alloc, n, width, rows)?;
             Ok(kept)
         }
     }

@@ -4,8 +4,8 @@ ghost use Rattle.std.specs.Prelude.{◌≡◌, ◌<◌, ◌≤◌, ◌+◌, ◌+
 ghost use Rattle.elim_core.specs.Elimination.{certificate_of, refutation_of};
 ghost use Rattle.elim_core.specs.RowLists.{AllRows, Wide};
 
+use crate::normalising::find_contradiction;
 use crate::signs::is_positive;
-use crate::tidying::find_contradiction;
 use crate::working_rows::WorkingRow;
 use farkas_cert::Certificate;
 use row_core::{Coeff, Row};
@@ -13,7 +13,7 @@ use std::alloc::Global;
 use suite_base::NoMemory;
 
 /// The certificate of the first contradiction among rows of `width` entries and `n` variables.
-pub fn look<R: Row>(
+pub fn contradiction<R: Row>(
     alloc: Global,
     n: usize,
     width: usize,

@@ -6,8 +6,8 @@ use Rattle.elim_core.proofs.Joining.{reduced_base}
 use Rattle.elim_core.proofs.Reducing.{reduces_trans}
 use Rattle.elim_core.proofs.reductions.reduce.Goals as goal
 
-pub tidy_sound-requires-clause-wide : goal.tidy_sound-requires-clause-wide
-tidy_sound-requires-clause-wide g c = c.in_ok-relieved.ensures.widths (c.variable_count-n.result + 1 + c.row_count.result) (rw (c.in_ok-started.ensures, c.variable_count-n.ensures.value, c.row_count.ensures.value) c.row_count.ensures.started)
+pub normalise_sound-requires-clause-wide : goal.normalise_sound-requires-clause-wide
+normalise_sound-requires-clause-wide g c = c.in_ok-relieved.ensures.widths (c.variable_count-n.result + 1 + c.row_count.result) (rw (c.in_ok-started.ensures, c.variable_count-n.ensures.value, c.row_count.ensures.value) c.row_count.ensures.started)
 
 pub invariant_of-result : goal.invariant_of-result
 invariant_of-result g c =

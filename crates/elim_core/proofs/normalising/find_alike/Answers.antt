@@ -2,7 +2,7 @@ use Rattle.std.proofs.Common.{◌≡◌, sym, ◌∙◌, true}
 use Rattle.relation_core.specs.Systems.{row_at}
 use Rattle.elim_core.specs.Elimination.{alike}
 use Rattle.elim_core.proofs.CodeSteps.{row_is, found_alike}
-use Rattle.elim_core.proofs.tidying.find_alike.Goals as goal
+use Rattle.elim_core.proofs.normalising.find_alike.Goals as goal
 
 pub returns-then-are_alike : goal.returns-then-are_alike
 returns-then-are_alike g c =

@@ -6,10 +6,10 @@ use Rattle.relation_core.specs.declared.part_rows.PartRow.{PartRow}
 abbrev pub mixed : ℕ → ℤ → ℕ
 mixed m c = (m * cond (int_lt c (pos 0)) 37 31 + unsigned_abs c % 2 ^ 64) % 2 ^ 64
 
-abbrev pub mark_onto : ℕ → List ℤ → ℕ
-mark_onto m [] = m
-mark_onto m (c ∷ cells) = mark_onto (mixed m c) cells
+abbrev pub key_onto : ℕ → List ℤ → ℕ
+key_onto m [] = m
+key_onto m (c ∷ cells) = key_onto (mixed m c) cells
 
--- the mark of the coefficients of n variables
-abbrev pub mark : ℕ → PartRow → ℕ
-mark n w = mark_onto 0 (take n w.entries)
+-- the key of the coefficients of n variables
+abbrev pub key : ℕ → PartRow → ℕ
+key n w = key_onto 0 (take n w.entries)

@@ -1,7 +1,7 @@
 use Rattle.std.proofs.Common.{◌≡◌, ◌++◌, take, drop}
 use Rattle.elim_core.specs.Elimination.{admitted}
 use Rattle.elim_core.specs.RowLists.{AllRows, Wide}
-use Rattle.elim_core.proofs.tidying.find_alike.Given as goal
+use Rattle.elim_core.proofs.normalising.find_alike.Given as goal
 
 abbrev pub invariant-loop-k : goal.invariant-loop-k
 invariant-loop-k g l = record {
