@@ -1,5 +1,5 @@
-//! Times of the certificate check, of the elimination, of the commands of a script, and of lexing and parsing C, on
-//! standard error. The names of files as arguments time the decisions of the systems in them instead.
+//! Times of the certificate check, of the elimination, of the commands of a script, and of lexing, parsing and
+//! translating C, on standard error. The names of files as arguments time the decisions of the systems in them instead.
 //! Standard output says only that the runs ended, so that it is always the same.
 #![tactic(auto)]
 
@@ -13,6 +13,7 @@ mod scripts;
 mod system_files;
 mod systems;
 mod times;
+mod translations;
 
 use file_times::file_times;
 use nests::product;
@@ -25,6 +26,7 @@ use std::time::Instant;
 use std::{env, fs};
 use system_files::read_systems;
 use times::{check_time, reduction_time};
+use translations::{long_reads, translated_count};
 
 const ROUNDS: u32 = 1_000;
 
@@ -110,5 +112,17 @@ fn time_all(rt: &HostRuntime) -> Result<(), Fail> {
     let statements = statement_count(rt.alloc(), &text);
     let spent = start.elapsed(rt)?.as_micros();
     eprintln!(rt; "lexing and parsing of the same, {statements} statements: {spent} us")?;
+    let start = Instant::now(rt)?;
+    let translated = translated_count(rt.alloc(), &text);
+    let spent = start.elapsed(rt)?.as_micros();
+    eprintln!(rt;
+        "translation of the same, too many statements, {translated} translated: {spent} us"
+    )?;
+
+    let text = long_reads(rt.alloc())?;
+    let start = Instant::now(rt)?;
+    let translated = translated_count(rt.alloc(), &text);
+    let spent = start.elapsed(rt)?.as_micros();
+    eprintln!(rt; "translation of 16 MiB of reads, {translated} statements: {spent} us")?;
     Ok(())
 }
