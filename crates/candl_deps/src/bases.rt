@@ -14,7 +14,7 @@ ghost use Rattle.dependence_systems.specs.Systems.{base_of, base_weight, pairing
 ghost use Rattle.candl_deps.specs.Decisions.{IsRight, IsDecided, FailsOne};
 ghost use Rattle.candl_deps.specs.Bases as spec;
 
-use dependence_systems::{Dep, Pairing, own_pairing};
+use dependence_systems::{Dep, own_pairing};
 use elim_core::{ElimFail, Reduced, Verdict, decide_by, decide_with, reduce};
 use farkas_cert::Certificate;
 use relation_core::Part;
