@@ -1,5 +1,5 @@
 -- The rows that the systems of an entry share with those of the entries that differ from it in the level alone.
-use Rattle.std.specs.Prelude.{◌≡◌, ◌^◌, ◌<◌, List, length, Some, IfSome}
+use Rattle.std.specs.Prelude.{◌≡◌, ◌^◌, ◌<◌, List, length, IfSome}
 use Rattle.relation_core.specs.Systems.{System, truncated}
 use Rattle.dependence_systems.specs.declared.dependences.Dep.{Dep}
 use Rattle.dependence_systems.specs.Sides.{Side}
@@ -25,10 +25,3 @@ pub record IsBase (context : System) (sides : List Side) (base : Base) : Type 0 
 pub record IsBaseOf (context : System) (sides : List Side) (e : Dep) (base : Base) : Type 0 where
   pub is : IsBase context sides base
   pub same : without_level base.entry ≡ without_level e
-
--- the same base, with its rows reduced
-pub record IsReduced (base made : Base) : Type 0 where
-  pub entry : made.entry ≡ base.entry
-  pub part : made.part ≡ base.part
-  pub count : made.count ≡ base.count
-  pub reduced : made.reduced ≡ Some base.part

@@ -1,12 +1,8 @@
 //! The verdict of each system, over the rows that it shares with the systems of the same accesses and parts at
-//! other levels: these are built once, and reduced once where there are such levels.
+//! other levels: these are built once, and reduced once where the simplex method leaves a system open.
 
 ghost use Rattle.std.specs.Prelude.{◌≡◌, ◌<◌, ◌≤◌, ◌^◌, IsTrue, IfOk, IfErr, IfSome, OnOk};
-ghost use Rattle.suite_base.specs.Limits.{max_stage_rows};
 ghost use Rattle.scop_core.specs.Sequences.{In};
-ghost use Rattle.elim_core.specs.Peaks as emptiness;
-ghost use Rattle.elim_core.specs.Peaks.{peak};
-ghost use Rattle.elim_core.specs.Reductions.{BeginsWith};
 ghost use Rattle.dependence_systems.specs.Sides.{own_sides};
 ghost use Rattle.dependence_systems.specs.Originals.{own_originals};
 ghost use Rattle.dependence_systems.specs.Entries.{entries};
@@ -15,7 +11,7 @@ ghost use Rattle.candl_deps.specs.Decisions.{IsRight, IsDecided, FailsOne};
 ghost use Rattle.candl_deps.specs.Bases as spec;
 
 use dependence_systems::{Dep, own_pairing};
-use elim_core::{ElimFail, Reduced, Verdict, decide_by, decide_with, reduce};
+use elim_core::{ElimFail, Reduced, Verdict, decide_with, reduce, search_checked};
 use farkas_cert::Certificate;
 use relation_core::Part;
 use row_core::{RowFail, SparseRow};
@@ -24,8 +20,8 @@ use std::alloc::Global;
 use suite_base::NoMemory;
 
 /// The rows that the systems of an entry, and of those that differ from it in the level alone, begin with; and
-/// the same reduced, once a second one of these entries has come. While a level is decided, its rows stand
-/// behind the first `count` rows.
+/// the same reduced, once the elimination has wanted them. While a level is decided, its rows stand behind the
+/// first `count` rows.
 #[derive(Drop)]
 pub struct Base {
     entry: Dep,
@@ -40,6 +36,13 @@ pub struct Base {
 pub struct Level {
     pub base: Base,
     pub certificate: Option<Certificate>,
+}
+
+// The verdict on a system, as a certificate or none, and its base's rows, if they are reduced by now.
+#[derive(Drop)]
+struct Decision {
+    certificate: Option<Certificate>,
+    reduced: Option<Reduced<SparseRow>>,
 }
 
 impl Base {
@@ -80,18 +83,6 @@ fn new_base(alloc: Global, scop: &Scop, pieces: &Pieces, entry: &Dep) -> Result<
     }
 }
 
-// The base with its rows reduced.
-fn reduced_once(alloc: Global, base: Base) -> Result<Base, NoMemory>
-    requires { IfSome base.reduced (λ rows. rows ≡ base.part) }
-    ensures { IfOk result (spec.IsReduced base) }
-{
-    let mut base = base;
-    if base.reduced.is_none() {
-        base.reduced = Some(reduce::<SparseRow>(alloc, &base.part)?);
-    }
-    Ok(base)
-}
-
 // The base of an entry: the one at hand where the two entries differ in the level alone, else a new one.
 fn base_for(
     alloc: Global,
@@ -109,50 +100,99 @@ fn base_for(
     match held {
         None => new_base(alloc, scop, pieces, entry),
         Some(base) => {
-            if !have_one_base(&base.entry, entry) {
-                return new_base(alloc, scop, pieces, entry);
+            if have_one_base(&base.entry, entry) {
+                return Ok(base);
             }
-            match reduced_once(alloc, base) {
-                Ok(base) => Ok(base),
+            new_base(alloc, scop, pieces, entry)
+        }
+    }
+}
+
+// The rows of an entry's base, reduced: those at hand, or else the base is made and reduced.
+fn reduced_for(
+    alloc: Global,
+    scop: &Scop,
+    pieces: &Pieces,
+    entry: &Dep,
+    held: Option<Reduced<SparseRow>>,
+) -> Result<Reduced<SparseRow>, ElimFail>
+    requires own { pieces.now ≡ own_originals scop.now }
+    requires listed { In entry.now (entries (own_sides scop.now)) }
+    requires held { IfSome held (λ rows. rows ≡ base_of (pairing_of scop.now.context (own_sides scop.now) entry.now)) }
+    ensures rows { IfOk result (λ rows. rows ≡ base_of (pairing_of scop.now.context (own_sides scop.now) entry.now)) }
+    ensures cause { IfErr result (FailsOne scop.now.context (own_sides scop.now) entry.now) }
+{
+    match held {
+        Some(rows) => Ok(rows),
+        None => {
+            let base = new_base(alloc, scop, pieces, entry)?;
+            match reduce::<SparseRow>(alloc, &base.part) {
+                Ok(rows) => Ok(rows),
                 Err(NoMemory) => Err(ElimFail::Memory),
             }
         }
     }
 }
 
-// What decides a system: the elimination of its reduced first rows, where these are at hand.
-fn decided_by(
+// Decides the system of an entry by the elimination, which begins with the reduced base.
+fn eliminate(
     alloc: Global,
-    reduced: &Option<Reduced<SparseRow>>,
+    scop: &Scop,
+    pieces: &Pieces,
+    entry: &Dep,
+    reduced: Option<Reduced<SparseRow>>,
     system: &Part,
-) -> Result<Verdict, ElimFail>
-    requires { IfSome reduced.now (λ base. BeginsWith system.now base) }
-    ensures right { IfOk result (emptiness.IsRight system.now) }
-    ensures overflow { IfErr result (λ fail. fail ≡ ElimFail.Overflow → 2 ^ 127 ≤ (peak system.now).weight) }
-    ensures rows { IfErr result (λ fail. fail ≡ ElimFail.TooManyRows → max_stage_rows < (peak system.now).rows) }
+) -> Result<Decision, ElimFail>
+    requires own { pieces.now ≡ own_originals scop.now }
+    requires listed { In entry.now (entries (own_sides scop.now)) }
+    requires reduced { IfSome reduced (λ rows. rows ≡ base_of (pairing_of scop.now.context (own_sides scop.now) entry.now)) }
+    requires system { system.now ≡ system_of scop.now.context (own_sides scop.now) entry.now }
+    ensures right { IfOk result (λ found. IsRight system.now found.certificate) }
+    ensures reduced { IfOk result (λ found. IfSome found.reduced (λ rows. rows ≡ base_of (pairing_of scop.now.context (own_sides scop.now) entry.now))) }
+    ensures cause { IfErr result (FailsOne scop.now.context (own_sides scop.now) entry.now) }
 {
-    match reduced {
-        Some(base) => decide_with::<SparseRow>(alloc, base, system),
-        None => decide_by::<SparseRow>(alloc, system),
+    let rows = reduced_for(alloc, scop, pieces, entry, reduced)?;
+    match decide_with::<SparseRow>(alloc, &rows, system) {
+        Err(fail) => Err(fail),
+        Ok(Verdict::HasPoint) => Ok(Decision {
+            certificate: None,
+            reduced: Some(rows),
+        }),
+        Ok(Verdict::Empty(certificate)) => Ok(Decision {
+            certificate: Some(certificate),
+            reduced: Some(rows),
+        }),
     }
 }
 
-// The verdict on a system: no certificate exactly where it has a rational point, else one that is valid and not
-// too heavy to check. `Overflow` and `TooManyRows` come only by the peak of the system.
-fn verdict(
+// Decides the system of an entry: by the simplex method, and where that finds nothing, by the elimination.
+fn decide(
     alloc: Global,
-    reduced: &Option<Reduced<SparseRow>>,
+    scop: &Scop,
+    pieces: &Pieces,
+    entry: &Dep,
+    reduced: Option<Reduced<SparseRow>>,
     system: &Part,
-) -> Result<Option<Certificate>, ElimFail>
-    requires { IfSome reduced.now (λ base. BeginsWith system.now base) }
-    ensures right { IfOk result (IsRight system.now) }
-    ensures overflow { IfErr result (λ fail. fail ≡ ElimFail.Overflow → 2 ^ 127 ≤ (peak system.now).weight) }
-    ensures rows { IfErr result (λ fail. fail ≡ ElimFail.TooManyRows → max_stage_rows < (peak system.now).rows) }
+) -> Result<Decision, ElimFail>
+    requires own { pieces.now ≡ own_originals scop.now }
+    requires listed { In entry.now (entries (own_sides scop.now)) }
+    requires reduced { IfSome reduced (λ rows. rows ≡ base_of (pairing_of scop.now.context (own_sides scop.now) entry.now)) }
+    requires system { system.now ≡ system_of scop.now.context (own_sides scop.now) entry.now }
+    ensures right { IfOk result (λ found. IsRight system.now found.certificate) }
+    ensures reduced { IfOk result (λ found. IfSome found.reduced (λ rows. rows ≡ base_of (pairing_of scop.now.context (own_sides scop.now) entry.now))) }
+    ensures cause { IfErr result (FailsOne scop.now.context (own_sides scop.now) entry.now) }
 {
-    match decided_by(alloc, reduced, system) {
-        Err(fail) => Err(fail),
-        Ok(Verdict::HasPoint) => Ok(None),
-        Ok(Verdict::Empty(certificate)) => Ok(Some(certificate)),
+    match search_checked(alloc, system) {
+        Err(NoMemory) => Err(ElimFail::Memory),
+        Ok(None) => eliminate(alloc, scop, pieces, entry, reduced, system),
+        Ok(Some(Verdict::HasPoint)) => Ok(Decision {
+            certificate: None,
+            reduced,
+        }),
+        Ok(Some(Verdict::Empty(found))) => Ok(Decision {
+            certificate: Some(found),
+            reduced,
+        }),
     }
 }
 
@@ -162,22 +202,23 @@ fn decide_level(
     scop: &Scop,
     pieces: &Pieces,
     entry: &Dep,
-    reduced: &Option<Reduced<SparseRow>>,
+    reduced: Option<Reduced<SparseRow>>,
     part: &mut Part,
-) -> Result<Option<Certificate>, ElimFail>
+) -> Result<Decision, ElimFail>
     requires own { pieces.now ≡ own_originals scop.now }
     requires listed { In entry.now (entries (own_sides scop.now)) }
     requires light { base_weight (pairing_of scop.now.context (own_sides scop.now) entry.now) < 2 ^ 127 }
     requires part { part.old ≡ base_of (pairing_of scop.now.context (own_sides scop.now) entry.now) }
-    requires reduced { IfSome reduced.now (λ rows. rows ≡ base_of (pairing_of scop.now.context (own_sides scop.now) entry.now)) }
-    ensures decided { IfOk result (IsDecided scop.now.context (own_sides scop.now) entry.now part.new) }
+    requires reduced { IfSome reduced (λ rows. rows ≡ base_of (pairing_of scop.now.context (own_sides scop.now) entry.now)) }
+    ensures decided { IfOk result (λ found. IsDecided scop.now.context (own_sides scop.now) entry.now part.new found.certificate) }
+    ensures reduced { IfOk result (λ found. IfSome found.reduced (λ rows. rows ≡ base_of (pairing_of scop.now.context (own_sides scop.now) entry.now))) }
     ensures cause { IfErr result (FailsOne scop.now.context (own_sides scop.now) entry.now) }
 {
     let pairing = own_pairing(scop, pieces, entry);
     match pairing.push_level(part, entry.level as usize) {
         Err(RowFail::Memory) => Err(ElimFail::Memory),
         Err(RowFail::Overflow) => Err(ElimFail::Overflow),
-        Ok(()) => verdict(alloc, reduced, part),
+        Ok(()) => decide(alloc, scop, pieces, entry, reduced, part),
     }
 }
 
@@ -197,6 +238,11 @@ pub fn decided_entry(
     ensures cause { IfErr result (FailsOne scop.now.context (own_sides scop.now) entry.now) }
 {
     let mut base = base_for(alloc, scop, pieces, entry, held)?;
-    let certificate = decide_level(alloc, scop, pieces, entry, &base.reduced, &mut base.part)?;
-    Ok(Level { base, certificate })
+    let reduced = base.reduced.take();
+    let found = decide_level(alloc, scop, pieces, entry, reduced, &mut base.part)?;
+    base.reduced = found.reduced;
+    Ok(Level {
+        base,
+        certificate: found.certificate,
+    })
 }

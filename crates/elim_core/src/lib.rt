@@ -34,4 +34,5 @@ mod working_rows;
 pub use continuations::decide_with;
 pub use decisions::{decide, decide_by};
 pub use reductions::{Reduced, reduce};
+pub use searches::search_checked;
 pub use verdicts::{ElimFail, Verdict};
