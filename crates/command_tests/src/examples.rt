@@ -5,44 +5,52 @@ use crate::texts::{
     TILE_TWO,
 };
 
-/// A command, the texts of its files, and what it prints.
+/// The first words of a command, the texts of the files that follow them, and what it prints.
 #[derive(Clone, Copy, Debug)]
 pub struct Example {
-    pub command: &'static str,
+    pub command: &'static [&'static str],
     pub texts: &'static [&'static [u8]],
     pub output: &'static [u8],
 }
 
+/// The demo of four loops.
+pub const DEMO: Example = Example {
+    command: &["demo", "4"],
+    texts: &[],
+    output: b"demo 4\nstatements 4\nsystems 10 kept 6 dropped 4\nclay commands 6 accepted\nchlore commands 6\n",
+};
+
 /// Every command once.
-pub const EXAMPLES: [Example; 6] = [
+pub const EXAMPLES: [Example; 7] = [
     Example {
-        command: "clan",
+        command: &["clan"],
         texts: &[ONE_LOOP],
         output: ONE_LOOP_SCOP,
     },
     Example {
-        command: "scop",
+        command: &["scop"],
         texts: &[ONE_LOOP_SCOP],
         output: ONE_LOOP_SCOP,
     },
     Example {
-        command: "candl",
+        command: &["candl"],
         texts: &[DOWNWARD_LOOP_SCOP],
         output: DOWNWARD_LOOP_BLOCK,
     },
     Example {
-        command: "audit",
+        command: &["audit"],
         texts: &[DOWNWARD_LOOP_BLOCK],
         output: b"systems 3 kept 1 dropped 2\n",
     },
     Example {
-        command: "clay",
+        command: &["clay"],
         texts: &[TILE_TWO, STENCIL_SCOP],
         output: STENCIL_TILED,
     },
     Example {
-        command: "chlore",
+        command: &["chlore"],
         texts: &[DOWNWARD_LOOP_SCOP, ONE_LOOP_SCOP],
         output: b"reverse([0], 1);\n",
     },
+    DEMO,
 ];

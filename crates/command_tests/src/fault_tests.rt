@@ -1,6 +1,6 @@
 //! Each command with each of its calls failing in turn.
 
-use crate::examples::{EXAMPLES, Example};
+use crate::examples::{DEMO, EXAMPLES, Example};
 use crate::runs::{Fault, PLAIN, Run, Setting, run_suite};
 use crate::short_sinks::MOST;
 use std::alloc::Global;
@@ -23,7 +23,7 @@ fn calls_of_files(example: &Example, setting: Setting) -> u64 {
             calls = calls.saturating_add(CALLS_OF_A_FILE);
         }
     }
-    if setting.is_padded && setting.piped != Some(0) {
+    if setting.is_padded && setting.piped != Some(0) && !example.texts.is_empty() {
         calls = calls.saturating_add(1);
     }
     calls
@@ -168,5 +168,17 @@ fn a_call_that_writes_fails(rt: HostRuntime) -> Result<(), Fail> {
     for example in &EXAMPLES {
         writes_fail(&rt, rt.alloc(), example, PLAIN)?;
     }
+    Ok(())
+}
+
+/// A demo opens no file and reads no input.
+#[test]
+fn a_demo_reads_nothing(rt: HostRuntime) -> Result<(), Fail> {
+    let setting = Setting {
+        fault: Fault::Reads,
+        ..PLAIN
+    };
+    let run = run_suite(rt.alloc(), DEMO.command, DEMO.texts, setting)?;
+    assert!(rt; is_done(&run, &DEMO));
     Ok(())
 }

@@ -10,7 +10,7 @@ use suite_cli::Outcome;
 
 /// A run that does not end in `Done`, and what is written.
 struct Told {
-    command: &'static str,
+    command: &'static [&'static str],
     texts: &'static [&'static [u8]],
     /// The call that fails.
     fault: Fault,
@@ -26,7 +26,7 @@ const CLASH: &[u8] =
 /// A run for each outcome but `Done` and want of memory, and a refusal for each kind of fields.
 const TOLD: [Told; 11] = [
     Told {
-        command: "frob",
+        command: &["frob"],
         texts: &[b"x"],
         fault: Fault::Nothing,
         outcome: Outcome::Usage,
@@ -34,7 +34,7 @@ const TOLD: [Told; 11] = [
         message: b"suite: usage\n",
     },
     Told {
-        command: "scop",
+        command: &["scop"],
         texts: &[ONE_LOOP_SCOP],
         fault: Fault::Files(2),
         outcome: Outcome::ReadFault,
@@ -42,7 +42,7 @@ const TOLD: [Told; 11] = [
         message: b"suite: read fault\n",
     },
     Told {
-        command: "clan",
+        command: &["clan"],
         texts: &[ONE_LOOP],
         fault: Fault::Output(3),
         outcome: Outcome::WriteFault,
@@ -50,7 +50,7 @@ const TOLD: [Told; 11] = [
         message: b"suite: write fault\n",
     },
     Told {
-        command: "clan",
+        command: &["clan"],
         texts: &[b""],
         fault: Fault::Nothing,
         outcome: Outcome::Refused {
@@ -61,7 +61,7 @@ const TOLD: [Told; 11] = [
         message: b"suite: refused 1 2 NoRegion\n",
     },
     Told {
-        command: "clay",
+        command: &["clay"],
         texts: &[b"", b""],
         fault: Fault::Nothing,
         outcome: Outcome::Refused {
@@ -72,7 +72,7 @@ const TOLD: [Told; 11] = [
         message: b"suite: refused 2 11 BadScop 1\n",
     },
     Told {
-        command: "scop",
+        command: &["scop"],
         texts: &[b"<OpenScop>\nC\nCONTEXT\n0 170141183460469231731687303715884105728 0 0 0 1\n"],
         fault: Fault::Nothing,
         outcome: Outcome::Refused {
@@ -83,7 +83,7 @@ const TOLD: [Told; 11] = [
         message: b"suite: refused 1 12 NumberTooLarge 4 3\n",
     },
     Told {
-        command: "scop",
+        command: &["scop"],
         texts: &[CLASH],
         fault: Fault::Nothing,
         outcome: Outcome::Refused {
@@ -94,7 +94,7 @@ const TOLD: [Told; 11] = [
         message: b"suite: refused 1 15 BetaClash 1 2\n",
     },
     Told {
-        command: "candl",
+        command: &["candl"],
         texts: &[b"<OpenScop>\nC\nCONTEXT\n300 3 0 0 0 1\n"],
         fault: Fault::Nothing,
         outcome: Outcome::Refused {
@@ -105,7 +105,7 @@ const TOLD: [Told; 11] = [
         message: b"suite: refused 1 17 Limit rows 0\n",
     },
     Told {
-        command: "clay",
+        command: &["clay"],
         texts: &[b"fuse([0]", ONE_LOOP_SCOP],
         fault: Fault::Nothing,
         outcome: Outcome::Refused {
@@ -116,7 +116,7 @@ const TOLD: [Told; 11] = [
         message: b"suite: refused 1 18 BadScript 1 9\n",
     },
     Told {
-        command: "clay",
+        command: &["clay"],
         texts: &[
             b"shift([0], 1, [0], 170141183460469231731687303715884105727); shift([0], 1, [0], 1);",
             ONE_LOOP_SCOP,
@@ -130,7 +130,7 @@ const TOLD: [Told; 11] = [
         message: b"suite: refused 1 23 Overflow command 2\n",
     },
     Told {
-        command: "chlore",
+        command: &["chlore"],
         texts: &[ONE_LOOP_SCOP, STENCIL_SCOP],
         fault: Fault::Nothing,
         outcome: Outcome::Refused {

@@ -12,6 +12,8 @@ pub enum Fault {
     Files(u64),
     Input(u64),
     Output(u64),
+    /// Every call of the files and of the input, up to the thirtieth.
+    Reads,
 }
 
 /// How a command is run.
@@ -60,27 +62,37 @@ fn pad(text: &mut Text) -> Result<(), NoMemory> {
     Ok(())
 }
 
-/// The list of the one call that fails, or of none.
-fn listed(alloc: Global, call: Option<u64>) -> Result<List<u64>, NoMemory> {
+/// The list of these calls; of none where the first number is above the last one.
+fn listed(alloc: Global, first: u64, last: u64) -> Result<List<u64>, NoMemory> {
     let mut calls = List::new(alloc);
-    if let Some(k) = call {
+    for k in first..=last {
         calls.push(k)?;
     }
     Ok(calls)
 }
 
+/// The list of the one call that fails, or of none.
+fn one_call(alloc: Global, call: Option<u64>) -> Result<List<u64>, NoMemory> {
+    match call {
+        None => Ok(List::new(alloc)),
+        Some(k) => listed(alloc, k, k),
+    }
+}
+
 impl Fault {
-    fn of_files(self) -> Option<u64> {
+    fn of_files(self, alloc: Global) -> Result<List<u64>, NoMemory> {
         match self {
-            Fault::Files(k) => Some(k),
-            _ => None,
+            Fault::Files(k) => listed(alloc, k, k),
+            Fault::Reads => listed(alloc, 1, 30),
+            _ => Ok(List::new(alloc)),
         }
     }
 
-    fn of_input(self) -> Option<u64> {
+    fn of_input(self, alloc: Global) -> Result<List<u64>, NoMemory> {
         match self {
-            Fault::Input(k) => Some(k),
-            _ => None,
+            Fault::Input(k) => listed(alloc, k, k),
+            Fault::Reads => listed(alloc, 1, 30),
+            _ => Ok(List::new(alloc)),
         }
     }
 
@@ -94,18 +106,20 @@ impl Fault {
 
 /// A sink in memory, of which this call fails.
 fn sink(alloc: Global, call: Option<u64>) -> Result<ShortSink, NoMemory> {
-    Ok(ShortSink::new(MemSink::new(alloc, listed(alloc, call)?)))
+    Ok(ShortSink::new(MemSink::new(alloc, one_call(alloc, call)?)))
 }
 
-/// Runs a command on files with these texts, in the order of its words.
+/// Runs a command on files with these texts, in the order of its words: first those of the command, then one a file.
 pub fn run_suite(
     alloc: Global,
-    command: &str,
+    command: &[&str],
     texts: &[&[u8]],
     setting: Setting,
 ) -> Result<Run, NoMemory> {
     let mut words = WordList::new(alloc);
-    words.push(command)?;
+    for word in command {
+        words.push(word)?;
+    }
     let mut named = List::new(alloc);
     let mut input = Text::new(alloc);
     for (k, bytes) in texts.iter().enumerate() {
@@ -123,8 +137,8 @@ pub fn run_suite(
         }
     }
     let fault = setting.fault;
-    let mut files = MemFiles::new(named, listed(alloc, fault.of_files())?);
-    let mut source = MemSource::new(input, listed(alloc, fault.of_input())?);
+    let mut files = MemFiles::new(named, fault.of_files(alloc)?);
+    let mut source = MemSource::new(input, fault.of_input(alloc)?);
     let mut out = sink(alloc, fault.of_output())?;
     let mut err = sink(alloc, setting.lost)?;
     let outcome = suite(alloc, &words, &mut files, &mut source, &mut out, &mut err);

@@ -1,9 +1,11 @@
 -- Worked words: which name a file, which command they are, and how two files are read.
-use Rattle.std.proofs.Common.{◌≡◌, inl, inr, true, false, Some, [], ◌∷◌, refl, arith}
+use Rattle.std.proofs.Common.{◌≡◌, inl, inr, ℕ, ◌++◌, true, false, Some, List, [], ◌∷◌, refl, arith}
 use Rattle.std.specs.Prelude.{codes}
+use Rattle.std.specs.Fmt.{digits}
 use Rattle.std.specs.List.{count_by}
-use Rattle.suite_cli.specs.Commands.{Clan, Scop, Words, has_input, has_no_name, is_file_word, is_input}
-use Rattle.suite_cli.specs.Reads.{AreRead, HasReadFault, ReadWhole}
+use Rattle.std.proofs.lemmas.List.Elements.{All-nil}
+use Rattle.suite_cli.specs.Commands.{Clan, Demo, Scop, Words, files_of, has_input, has_no_name, is_file_word, is_input}
+use Rattle.suite_cli.specs.Reads.{AreRead, HasReadFault, IsTooLong, ReadWhole}
 use Rattle.suite_cli.specs.Worlds.{Inputs}
 use Rattle.suite_cli.proofs.WordLists.{one_file}
 
@@ -23,10 +25,30 @@ names_option : is_file_word (codes "-x") ≡ false
 names_option = refl
 
 clan_words : Words (codes "clan" ∷ (codes "a.c" ∷ [])) (Clan (codes "a.c"))
-clan_words = record { words_are = refl; files = one_file (codes "a.c") refl }
+clan_words = record { words_are = refl; files = one_file (codes "a.c") refl; loops = tt }
 
 scop_words : Words (codes "scop" ∷ (codes "-" ∷ [])) (Scop (codes "-"))
-scop_words = record { words_are = refl; files = one_file (codes "-") refl }
+scop_words = record { words_are = refl; files = one_file (codes "-") refl; loops = tt }
+
+demo_words : Words (codes "demo" ∷ (codes "32" ∷ [])) (Demo 32)
+unfolding digits
+demo_words = record {
+  words_are = refl;
+  files = record { each = All-nil (λ word. is_file_word word ≡ true); once = omega arith };
+  loops = (omega arith, omega arith);
+}
+
+-- no file is at a place of none
+none_in_none : (earlier later : List (List ℕ)) (file : List ℕ) → ¬ ([] ≡ earlier ++ file ∷ later)
+none_in_none [] later file e = absurd (cc)
+none_in_none (x ∷ earlier) later file e = absurd (cc)
+
+-- so a demo has no read fault, and is refused for no file's length
+demo_has_no_read_fault : (loops : ℕ) (before now : Inputs) → ¬ HasReadFault before now (files_of (Demo loops))
+demo_has_no_read_fault loops before now h = none_in_none h.1.earlier h.1.later h.1.file h.1.files_are
+
+demo_is_never_too_long : (loops place : ℕ) (before now : Inputs) → ¬ IsTooLong before now (files_of (Demo loops)) place
+demo_is_never_too_long loops place before now h = none_in_none h.earlier h.later h.file h.files_are
 
 -- standard input twice, which no command may name
 input_twice : count_by is_input (codes "-" ∷ (codes "-" ∷ [])) ≡ 2

@@ -1,8 +1,7 @@
 -- Refusals of `clay`: none is TooLong, and a text of a script has no fault.
-use Rattle.std.proofs.Common.{◌≡◌, ◌⊎◌, inl, inr, ℕ, ◌+◌, ◌<◌, ◌≤◌, ◌^◌, Bool, true, false, List, [], ◌∷◌, ◌++◌, length, refl, ap, sym, ◌∙◌, subst, arith}
-use Rattle.std.specs.Prelude.{Option, Some, None, Result, Ok, Err, if◌then◌else◌, is_none, ◌&&◌, not, ℤ, ◌||◌, map, nat_le, int_le, pos, ◌==◌}
+use Rattle.std.proofs.Common.{◌≡◌, ℕ, ◌+◌, ◌≤◌, ◌^◌, Bool, true, false, List, [], ◌∷◌, length, refl, ap, sym, ◌∙◌}
+use Rattle.std.specs.Prelude.{Option, Some, None, Result, Ok, Err, if◌then◌else◌, ◌&&◌, not, ◌||◌, map, nat_le, int_le, pos, ◌==◌}
 use Rattle.std.specs.Ordering.{int_eq}
-use Rattle.suite_base.specs.declared.refusals.Fail.{Fail}
 use Rattle.suite_base.specs.declared.refusals.Fail.TheVariants as fail
 use Rattle.suite_base.specs.declared.refusals.Refusal.{Refusal}
 use Rattle.suite_base.specs.declared.refusals.Refusal.TheVariants as refusal
@@ -17,7 +16,6 @@ use Rattle.scop_core.specs.ScopData.{ScopData}
 use Rattle.scop_core.specs.Assembly.{or_else}
 use Rattle.clay_script.specs.declared.commands.Command.{Command}
 use Rattle.clay_script.specs.declared.commands.Command.TheVariants.{Fission, Fuse, Reorder, Interchange, Skew, Shift, Reverse, Stripmine, Tile, Iss}
-use Rattle.clay_script.specs.declared.tokens.Token.{Token}
 use Rattle.clay_script.specs.declared.tokens.Lexeme.{Lexeme}
 use Rattle.clay_script.specs.Commands.{prefix_of}
 use Rattle.clay_script.specs.Lexemes.{lexemes_of, first_place}
@@ -28,8 +26,8 @@ use Rattle.clay_script.proofs.Laws.{IsText}
 use Rattle.clay_script.proofs.Answers.{text_is, only_is, first_is}
 use Rattle.clay_commands.specs.Arguments.{natural, are_natural, prefix_in, order_in}
 use Rattle.clay_commands.specs.Drafts.{Draft, betas_of, drafted, draft_after}
-use Rattle.clay_commands.specs.Refusals.{refused, level_then, is_within, can_cut, all_under, has_full_part, most_under, weight_of, condition_under, condition_of, cut_limit, limit_of, overflow_of, refusal_at, first_refusal, is_formed}
-use Rattle.clay_commands.specs.Afters.{after_script, IsFormed, refusal_of}
+use Rattle.clay_commands.specs.Refusals.{refused, level_then, is_within, can_cut, all_under, has_full_part, most_under, weight_of, condition_under, condition_of, cut_limit, limit_of, overflow_of, refusal_at, first_refusal}
+use Rattle.clay_commands.specs.Afters.{refusal_of}
 
 -- ---- no command is refused as too long
 

@@ -6,3 +6,4 @@ pub mod FileLists
 pub mod RunAnswers
 pub mod ClayScripts
 pub mod Recoverings
+pub mod LoopWords

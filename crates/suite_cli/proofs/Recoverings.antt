@@ -75,7 +75,7 @@ recovery_says O T =
     or_says (pair_refusal O T) (length_refusal (strategy O T))
     (or_says (difference_of O T) (or_else not_clans not_recoverable) different (or_says not_clans not_recoverable form lost)) long
 
-says_no_length : (O T : ScopData) → ¬ (recovery_refusal O T ≡ Some refusal.TooLong)
+pub says_no_length : (O T : ScopData) → ¬ (recovery_refusal O T ≡ Some refusal.TooLong)
 says_no_length O T e =
     let no = recovery_says O T in
     let yes : says (recovery_refusal O T) ≡ true = ap says e in

@@ -1,10 +1,12 @@
 -- What a run tells is what its outcome asks.
-use Rattle.std.proofs.Common.{◌≡◌, ◌⊎◌, inl, inr, ℕ, ◌<◌, ◌≤◌, ◌+◌, ◌^◌, List, [], ◌∷◌, ◌++◌, Option, Some, None, IfSome, IsSomeAnd, Result, Ok, Err, OnOk, OnErr, length, refl, ap, sym, ◌∙◌, subst, arith}
+use Rattle.std.proofs.Common.{◌≡◌, ◌⊎◌, inl, inr, ℕ, ◌<◌, ◌≤◌, ◌+◌, ◌^◌, List, [], ◌∷◌, ◌++◌, Option, Some, None, IfSome, IsSomeAnd, Result, Ok, Err, IfErr, OnOk, OnErr, length, refl, ap, sym, ◌∙◌, subst, arith}
 use Rattle.std.proofs.lemmas.List.{append-nil}
 use Rattle.suite_base.specs.Outside.{IsMissing, Under, Wrote, WrotePart}
-use Rattle.suite_base.specs.Limits.{max_commands, max_input, max_stage_rows}
+use Rattle.suite_base.specs.Limits.{max_commands, max_input}
+use Rattle.suite_base.specs.declared.refusals.Fail.{Fail}
+use Rattle.suite_base.specs.declared.refusals.Fail.TheVariants as failure
 use Rattle.suite_base.specs.declared.refusals.Refusal.{Refusal}
-use Rattle.suite_base.specs.declared.refusals.Refusal.TheVariants.{TooLong, Illegal, Limit, Overflow, TooManyRows}
+use Rattle.suite_base.specs.declared.refusals.Refusal.TheVariants.{TooLong}
 use Rattle.scop_core.specs.ScopData.{ScopData}
 use Rattle.scop_core.specs.Layouts.{layout}
 use Rattle.scop_core.specs.Validity.{IsValid}
@@ -21,9 +23,8 @@ use Rattle.clay_script.specs.declared.commands.Command.{Command as ScriptCommand
 use Rattle.clay_commands.specs.Afters.{after_script, refusal_of}
 use Rattle.clay_commands.specs.declared.edited.Edited.{Edited}
 use Rattle.scop_core.proofs.KeptLimits.{keeps_limits}
-use Rattle.legality.specs.Violations.{Edit, Violation, edit_of, violation_peak}
-use Rattle.legality.specs.Answers as legal
-use Rattle.legality.specs.Answers.{IsAccepted, IsNone}
+use Rattle.legality.specs.Violations.{edit_of}
+use Rattle.legality.specs.Answers.{IsAccepted}
 use Rattle.legality.specs.Memories.{KeepsMemory}
 use Rattle.edit_laws.proofs.Unrefused.{unrefused_scripts_are_formed}
 use Rattle.edit_laws.proofs.Brought.{scripts_bring_instances}
@@ -39,6 +40,13 @@ use Rattle.region_trees.specs.Translation.{of_names, of_region, unless_refused}
 use Rattle.region_trees.proofs.Answered.{answers_are_translated}
 use Rattle.region_extract.specs.Answers.{IsTranslation}
 use Rattle.region_extract.proofs.Exclusions.{refuses_no_length, translated_is_not_refused}
+use Rattle.demo.specs.Demonstrations as demo
+use Rattle.demo.specs.Edits.{IsScriptRefused}
+use Rattle.demo.specs.Inputs.{demo_script, demo_text}
+use Rattle.demo.proofs.ClearEdits.{clear_is_not_refused}
+use Rattle.demo.proofs.Stages.{taken_is_not_refused}
+use Rattle.suite_cli.specs.declared.commands.Work.{Work}
+use Rattle.suite_cli.specs.declared.commands.Work.TheVariants as work
 use Rattle.suite_cli.specs.declared.outcomes.Outcome.{Outcome}
 use Rattle.suite_cli.specs.declared.outcomes.Outcome.TheVariants.{Done, Refused, Usage, ReadFault, WriteFault, Memory}
 use Rattle.suite_cli.specs.Answers.{Answers, CommandAnswers, Completes, IsRefused, ReadingAnswers, RefusalCause, Reported}
@@ -48,15 +56,15 @@ use Rattle.suite_cli.specs.ChlorePromise as chlore
 use Rattle.suite_cli.specs.ClanPromise as clan
 use Rattle.suite_cli.specs.ClanPromise.{names_in}
 use Rattle.suite_cli.specs.ClayPromise as clay
-use Rattle.suite_cli.specs.ClayPromise.{AreClear, IsClear, IsScriptRefused, IsScriptText, IsStopped, edited}
-use Rattle.suite_cli.specs.Commands.{Command, Audit, Candl, Chlore, Clan, Clay, Scop, Words, files_of}
+use Rattle.suite_cli.specs.ClayPromise.{IsScriptText}
+use Rattle.suite_cli.specs.Commands.{Command, Audit, Candl, Chlore, Clan, Clay, Demo, Scop, Words, command_of, files_of}
 use Rattle.suite_cli.specs.Messages.{message}
-use Rattle.suite_cli.specs.Promises.{OfOne, OfTwo, Refuses, StopCause, Takes}
+use Rattle.suite_cli.specs.Promises.{OfOne, OfTwo, Refuses, StopCause, Takes, made_of}
 use Rattle.suite_cli.specs.Reads.{AreRead, AreReadable, FaultCause, HasReadFault, Holds, IsLong, IsReadFaulty, IsReadable, IsTooLong, Named, StopsAt, Tells}
 use Rattle.suite_cli.specs.ScopPromise as scop
 use Rattle.suite_cli.specs.Worlds.{Inputs, IsUnwritten, IsWriteFaulty, Output, World}
 use Rattle.suite_cli.proofs.AuditLengths.{audit_says_no_length}
-use Rattle.suite_cli.proofs.Recoverings.{chlore_not_too_long, no_chlore_refusal}
+use Rattle.suite_cli.proofs.Recoverings.{chlore_not_too_long, no_chlore_refusal, says_no_length}
 use Rattle.suite_cli.proofs.ClayScripts.{fault_is_no_length, one_script, script_has_no_fault, script_says_no_length}
 use Rattle.suite_cli.proofs.ScopTexts.{text_has_no_fault}
 use Rattle.suite_cli.proofs.WordLists.{one_command}
@@ -225,29 +233,6 @@ no_audit_refusal text S counts refusal t passes (inr h) =
     let refused : audited S ≡ Err refusal = subst (λ (T : ScopData). audited T ≡ Err refusal) same h.2 in
     absurd (cc)
 
-clear_at : (E : Edit) (before : List Violation) (v : Violation) (behind : List Violation) → AreClear E (before ++ v ∷ behind)
-    → IsNone E v × ((violation_peak E v).weight < 2 ^ 127) × ((violation_peak E v).rows ≤ max_stage_rows)
-clear_at E [] v behind h = (h.0, h.1, h.2)
-clear_at E (x ∷ before) v behind h = clear_at E before v behind h.3
-
-clear_where : (E : Edit) (k : ℕ) (P : Violation → Type 0) → IsClear E → (s : legal.StopsAt E k P)
-    → IsNone E s.violation × ((violation_peak E s.violation).weight < 2 ^ 127) × ((violation_peak E s.violation).rows ≤ max_stage_rows)
-clear_where E k P clear s = clear_at E s.before s.violation s.behind (subst (AreClear E) s.split clear.clear)
-
--- a clear edit is not refused
-no_stop : (E : Edit) (refusal : Refusal) → IsClear E → ¬ IsStopped E refusal
-no_stop E (Illegal k) clear h =
-    let v = clear_where E k _ clear h.first in
-    v.0.no_point h.first.holds.1.at h.first.holds.1.factor h.first.holds.1.length_is h.first.holds.1.point
-no_stop E (Limit which k) clear h = let few = clear.few in let many = h.2 in omega arith
-no_stop E (Overflow what k) clear h = let v = clear_where E k _ clear h.2 in let light = v.1 in let heavy = h.2.holds in omega arith
-no_stop E (TooManyRows k) clear h = let v = clear_where E k _ clear h.1 in let few = v.2 in let many = h.1.holds.1 in omega arith
-no_stop E refusal clear h = absurd h
-
-not_together : (S : ScopData) (script : List ScriptCommand) (refusal : Refusal) → refusal_of S script ≡ None → IsClear (edited S script) → ¬ IsScriptRefused S script refusal
-not_together S script refusal unrefused clear (inl h) = absurd (cc)
-not_together S script refusal unrefused clear (inr h) = no_stop (edited S script) refusal clear h.stopped
-
 no_clay_refusal : (first second : List ℕ) (place : ℕ) (refusal : Refusal) → clay.Takes first second → ¬ clay.Refuses first second place refusal
 no_clay_refusal first second place refusal t (inl h) = script_has_no_fault first t.script refusal t.texts.script_text.text_is t.texts.script_text.few h.1
 no_clay_refusal first second place refusal t (inr (inl h)) = no_scop_refusal second t.scop refusal t.texts.scop_text h.1.fault_is
@@ -257,7 +242,7 @@ no_clay_refusal first second place refusal t (inr (inr h)) =
     let same_scop : r.scop ≡ t.scop = stands_for_one_law second r.scop t.scop r.texts.scop_text t.texts.scop_text in
     let refused : IsScriptRefused t.scop t.script refusal =
     subst (λ S. IsScriptRefused S t.script refusal) same_scop (subst (λ c. IsScriptRefused r.scop c refusal) same_script r.refused) in
-    not_together t.scop t.script refusal t.unrefused t.clear refused
+    clear_is_not_refused t.scop t.script refusal t.unrefused t.clear refused
 
 -- what one text excludes, a list of one does
 one_excludes : (P Q : List ℕ → Type 0) → ((text : List ℕ) → P text → ¬ Q text) → (texts : List (List ℕ)) → OfOne P texts → ¬ OfOne Q texts
@@ -281,6 +266,7 @@ not_refused (Clay script file) texts place refusal t h =
     two_exclude clay.Takes (λ first second. clay.Refuses first second place refusal) (λ first second. no_clay_refusal first second place refusal) texts t h
 not_refused (Chlore original target) texts place refusal t h =
     two_exclude chlore.Takes (λ first second. chlore.Refuses first second place refusal) (λ first second. no_chlore_refusal first second place refusal) texts t h
+not_refused (Demo loops) texts place refusal t h = taken_is_not_refused loops refusal t h.1
 
 -- what no text has, no list of one has
 none_of_one : (P : List ℕ → Type 0) → ((text : List ℕ) → ¬ P text) → (texts : List (List ℕ)) → ¬ OfOne P texts
@@ -307,6 +293,12 @@ clay_not_too_long first second place (inl h) = fault_is_no_length first h.1
 clay_not_too_long first second place (inr (inl h)) = fault_is_not_too_long_law second h.1.fault_is
 clay_not_too_long first second place (inr (inr h)) = script_not_too_long h.1.scop h.1.script h.1.refused
 
+demo_not_too_long : (loops : ℕ) → ¬ demo.Refuses loops TooLong
+demo_not_too_long loops (inl h) = refuses_no_length (demo_text loops) h
+demo_not_too_long loops (inr (inl h)) = h.refused
+demo_not_too_long loops (inr (inr (inl h))) = script_not_too_long h.scop (demo_script loops) h.refused
+demo_not_too_long loops (inr (inr (inr h))) = says_no_length h.scop (demo.after_demo loops h.scop) h.refused
+
 audit_not_too_long : (text : List ℕ) → ¬ audit.Refuses text TooLong
 audit_not_too_long text (inl h) = fault_is_not_too_long_law text h
 audit_not_too_long text (inr h) = audit_says_no_length h.0 h.2
@@ -319,6 +311,7 @@ never_long (Candl file) texts place h = none_of_one (λ text. candl.Refuses text
 never_long (Audit file) texts place h = none_of_one (λ text. audit.Refuses text TooLong) audit_not_too_long texts h.1
 never_long (Clay script file) texts place h = none_of_two (λ first second. clay.Refuses first second place TooLong) (λ first second. clay_not_too_long first second place) texts h
 never_long (Chlore original target) texts place h = none_of_two (λ first second. chlore.Refuses first second place TooLong) (λ first second. chlore_not_too_long first second place) texts h
+never_long (Demo loops) texts place h = demo_not_too_long loops h.1
 
 cause_unless_long : (command : Command) (before now : Inputs) (place : ℕ) (refusal : Refusal) → ¬ (refusal ≡ TooLong) → IsRefused command before now place refusal → RefusalCause command before now place refusal
 cause_unless_long command before now place TooLong other h = absurd (other refl)
@@ -331,6 +324,19 @@ cause_of command before now place refusal h =
     cause_unless_long command before now place refusal other h
 
 -- ---- the outcome of a run that made no output
+
+-- a demo that is refused speaks of no file
+demo_stops : (texts : List (List ℕ)) (loops : ℕ) (made : Result (List ℕ) Fail) → IfErr made (demo.IsStop loops) → IfErr (made_of 0 made) (StopCause (Demo loops) texts)
+demo_stops texts loops (Ok output) h = tt
+demo_stops texts loops (Err failure.Memory) h = tt
+demo_stops texts loops (Err (failure.Refused refusal)) h = (refl, h)
+
+pub demo_ends : (asked : Work) (texts : List (List ℕ)) (loops : ℕ) (made : Result (List ℕ) Fail) (result : Result (List ℕ) Outcome) → asked ≡ work.Demo loops
+    → result ≡ made_of 0 made → IfErr made (demo.IsStop loops) → IfErr result (StopCause (command_of asked) texts)
+demo_ends asked texts loops made result is e h =
+    let P : Work → Type 0 = λ w. IfErr result (StopCause (command_of w) texts) in
+    let Q : Result (List ℕ) Outcome → Type 0 = λ r. IfErr r (StopCause (Demo loops) texts) in
+    subst P (sym is) (subst Q (sym e) (demo_stops texts loops made h))
 
 -- the outcome of files that were not all read is the command's
 pub unread_answers : (command : Command) (before now : World) (outcome : Outcome) → IsUnwritten before now → ReadingAnswers (files_of command) before.inputs now.inputs outcome → CommandAnswers command before now outcome

@@ -1,8 +1,7 @@
 -- What `clay` promises of the texts of its files: a script, and a SCoP.
-use Rattle.std.specs.Prelude.{◌≡◌, ◌⊎◌, ◌<◌, ◌≤◌, ◌^◌, ℕ, ℤ, List, [], ◌∷◌, length, Some, None}
+use Rattle.std.specs.Prelude.{◌≡◌, ◌⊎◌, ◌≤◌, ℕ, ℤ, List, length, None, Some}
 use Rattle.suite_base.specs.declared.refusals.Refusal.{Refusal}
-use Rattle.suite_base.specs.declared.refusals.Refusal.TheVariants.{Illegal}
-use Rattle.suite_base.specs.Limits.{max_commands, max_systems, max_stage_rows}
+use Rattle.suite_base.specs.Limits.{max_commands}
 use Rattle.scop_core.specs.ScopData.{ScopData}
 use Rattle.scop_core.specs.Layouts.{layout}
 use Rattle.scop_reader.specs.Texts.{IsScopText, fault}
@@ -11,9 +10,9 @@ use Rattle.clay_script.specs.Lexemes.{lexemes_of}
 use Rattle.clay_script.specs.Grammar.{IsScript, FirstFault}
 use Rattle.clay_commands.specs.Afters.{after_script, refusal_of}
 use Rattle.edit_laws.specs.Stamping.{BringsInstances}
-use Rattle.legality.specs.Violations.{Edit, Violation, edit_of, dependences, violations, violation_peak}
-use Rattle.legality.specs.Answers.{IsNone, IsAccepted, IsRejected, IsRefusal}
+use Rattle.legality.specs.Answers.{IsAccepted}
 use Rattle.legality.specs.Memories.{KeepsMemory}
+use Rattle.demo.specs.Edits.{IsClear, IsScriptRefused, edited}
 use Rattle.suite_cli.specs.declared.outcomes.Outcome.{Outcome}
 use Rattle.suite_cli.specs.declared.outcomes.Outcome.TheVariants.{Memory, Refused}
 
@@ -26,10 +25,6 @@ pub record IsScriptText (text : List ℕ) (script : List Command) : Type 0 where
 pub record AreTexts (first second : List ℕ) (script : List Command) (scop : ScopData) : Type 0 where
   pub script_text : IsScriptText first script
   pub scop_text : IsScopText second scop
-
--- the SCoP and the one after the script
-abbrev pub edited : ScopData → List Command → Edit
-edited S script = edit_of S (after_script S script)
 
 -- the output is that of this script and SCoP
 pub record IsEditedText (scop : ScopData) (script : List Command) (output : List ℕ) : Type 0 where
@@ -49,17 +44,6 @@ pub record Makes (first second output : List ℕ) : Type 0 where
   pub texts : AreTexts first second script scop
   pub made : IsEditedText scop script output
 
--- no violation has a rational point, and each peak is within both limits
-abbrev pub AreClear : Edit → List Violation → Type 0
-AreClear E [] = Unit {0}
-AreClear E (v ∷ vs) =
-    let p = violation_peak E v in IsNone E v × (p.weight < 2 ^ 127) × (p.rows ≤ max_stage_rows) × AreClear E vs
-
--- an edit of which every violation system is decided, and has no rational point
-pub record IsClear (E : Edit) : Type 0 where
-  pub few : length (dependences E) ≤ max_systems
-  pub clear : AreClear E (violations E)
-
 -- it takes a script that no command of is refused, and that is clear
 pub record Takes (first second : List ℕ) : Type 0 where
   pub script : List Command
@@ -68,21 +52,7 @@ pub record Takes (first second : List ℕ) : Type 0 where
   pub unrefused : refusal_of scop script ≡ None
   pub clear : IsClear (edited scop script)
 
--- an edit is refused as illegal for the first violation system with a rational point, or for what its systems are refused
-abbrev pub IsStopped : Edit → Refusal → Type 0
-IsStopped E (Illegal k) = IsRejected E k
-IsStopped E refusal = IsRefusal E refusal
-
--- a script that no command of is refused is refused for the edit that it makes
-pub record IsEditRefused (scop : ScopData) (script : List Command) (refusal : Refusal) : Type 0 where
-  pub unrefused : refusal_of scop script ≡ None
-  pub stopped : IsStopped (edited scop script) refusal
-
--- a script and a SCoP are refused for the first command with a refusal, or for the edit
-abbrev pub IsScriptRefused : ScopData → List Command → Refusal → Type 0
-IsScriptRefused scop script refusal = (refusal_of scop script ≡ Some refusal) ⊎ IsEditRefused scop script refusal
-
--- so are the texts that stand for them
+-- a script and a SCoP are refused, and so are the texts that stand for them
 pub record IsTogetherRefused (first second : List ℕ) (refusal : Refusal) : Type 0 where
   pub script : List Command
   pub scop : ScopData

@@ -1,11 +1,12 @@
 -- The commands that the program's words name.
 use Rattle.std.specs.Prelude.{◌≡◌, ℕ, ◌≤◌, Bool, true, false, not, ◌||◌, ◌==◌, List, [], ◌∷◌, codes}
+use Rattle.std.specs.Fmt.{decimal}
 use Rattle.std.specs.List.{AllPass, count_by, list_all, list_any}
 use Rattle.std.specs.Str.{bytes_eq}
 use Rattle.suite_cli.specs.declared.commands.Work.{Work}
 use Rattle.suite_cli.specs.declared.commands.Work.TheVariants as work
 
--- a command with the words of its files
+-- a command with the words of its files, or with its number of loops
 pub data Command : Type 0 where
   Clan : (file : List ℕ) → Command
   Scop : (file : List ℕ) → Command
@@ -13,6 +14,7 @@ pub data Command : Type 0 where
   Audit : (file : List ℕ) → Command
   Clay : (script file : List ℕ) → Command
   Chlore : (original target : List ℕ) → Command
+  Demo : (loops : ℕ) → Command
 
 -- the command that a work is
 abbrev pub command_of : Work → Command
@@ -22,6 +24,7 @@ command_of (work.Candl file) = Candl file.now
 command_of (work.Audit file) = Audit file.now
 command_of (work.Clay script file) = Clay script.now file.now
 command_of (work.Chlore original target) = Chlore original.now target.now
+command_of (work.Demo loops) = Demo loops
 
 -- the words of the files that a command reads, in their order
 abbrev pub files_of : Command → List (List ℕ)
@@ -31,6 +34,7 @@ files_of (Candl file) = file ∷ []
 files_of (Audit file) = file ∷ []
 files_of (Clay script file) = script ∷ (file ∷ [])
 files_of (Chlore original target) = original ∷ (target ∷ [])
+files_of (Demo loops) = []
 
 -- the words of a command
 abbrev pub words_of : Command → List (List ℕ)
@@ -40,6 +44,7 @@ words_of (Candl file) = codes "candl" ∷ (file ∷ [])
 words_of (Audit file) = codes "audit" ∷ (file ∷ [])
 words_of (Clay script file) = codes "clay" ∷ (script ∷ (file ∷ []))
 words_of (Chlore original target) = codes "chlore" ∷ (original ∷ (target ∷ []))
+words_of (Demo loops) = codes "demo" ∷ (decimal loops ∷ [])
 
 -- the word for standard input
 abbrev pub is_input : List ℕ → Bool
@@ -66,10 +71,25 @@ pub record AreFileWords (files : List (List ℕ)) : Type 0 where
   pub each : AllPass is_file_word files
   pub once : count_by is_input files ≤ 1
 
+-- how many loops a demo may have
+abbrev pub IsLoopCount : ℕ → Type 0
+IsLoopCount loops = (1 ≤ loops) × (loops ≤ 32)
+
+-- the word says this number of loops: decimal digits without a leading zero
+pub record IsLoopWord (word : List ℕ) (loops : ℕ) : Type 0 where
+  pub count : IsLoopCount loops
+  pub digits : word ≡ decimal loops
+
+-- a demo has as many loops as it may have
+abbrev pub HasLoops : Command → Type 0
+HasLoops (Demo loops) = IsLoopCount loops
+HasLoops command = Unit {0}
+
 -- these words are this command
 pub record Words (words : List (List ℕ)) (command : Command) : Type 0 where
   pub words_are : words ≡ words_of command
   pub files : AreFileWords (files_of command)
+  pub loops : HasLoops command
 
 -- the words of none
 abbrev pub IsNoCommand : List (List ℕ) → Type 0

@@ -3,13 +3,14 @@ use Rattle.std.specs.Prelude.{◌≡◌, ℕ, List, [], ◌∷◌, Result, Ok, E
 use Rattle.suite_base.specs.declared.refusals.Fail.{Fail}
 use Rattle.suite_base.specs.declared.refusals.Fail.TheVariants as fail
 use Rattle.suite_base.specs.declared.refusals.Refusal.{Refusal}
+use Rattle.demo.specs.Demonstrations as demo
 use Rattle.suite_cli.specs.declared.outcomes.Outcome.{Outcome}
 use Rattle.suite_cli.specs.declared.outcomes.Outcome.TheVariants.{Memory, Refused}
 use Rattle.suite_cli.specs.AuditPromise as audit
 use Rattle.suite_cli.specs.CandlPromise as candl
 use Rattle.suite_cli.specs.ChlorePromise as chlore
 use Rattle.suite_cli.specs.ClayPromise as clay
-use Rattle.suite_cli.specs.Commands.{Command, Audit, Candl, Chlore, Clan, Clay, Scop}
+use Rattle.suite_cli.specs.Commands.{Command, Audit, Candl, Chlore, Clan, Clay, Demo, Scop}
 use Rattle.suite_cli.specs.ClanPromise as clan
 use Rattle.suite_cli.specs.ScopPromise as scop
 
@@ -31,6 +32,7 @@ Makes (Candl file) texts output = OfOne (λ text. candl.Makes text output) texts
 Makes (Audit file) texts output = OfOne (λ text. audit.Makes text output) texts
 Makes (Clay script file) texts output = OfTwo (λ first second. clay.Makes first second output) texts
 Makes (Chlore original target) texts output = OfTwo (λ first second. chlore.Makes first second output) texts
+Makes (Demo loops) texts output = demo.Demonstrates loops output
 
 -- the command takes these texts
 abbrev pub Takes : Command → List (List ℕ) → Type 0
@@ -40,6 +42,7 @@ Takes (Candl file) texts = OfOne candl.Takes texts
 Takes (Audit file) texts = OfOne audit.Takes texts
 Takes (Clay script file) texts = OfTwo clay.Takes texts
 Takes (Chlore original target) texts = OfTwo chlore.Takes texts
+Takes (Demo loops) texts = demo.Takes loops
 
 -- the command refuses these texts so; the refusal speaks of the file at this place, from 1, or of none at 0
 abbrev pub Refuses : Command → List (List ℕ) → ℕ → Refusal → Type 0
@@ -49,6 +52,7 @@ Refuses (Candl file) texts place refusal = (place ≡ 1) × OfOne (λ text. cand
 Refuses (Audit file) texts place refusal = (place ≡ 1) × OfOne (λ text. audit.Refuses text refusal) texts
 Refuses (Clay script file) texts place refusal = OfTwo (λ first second. clay.Refuses first second place refusal) texts
 Refuses (Chlore original target) texts place refusal = OfTwo (λ first second. chlore.Refuses first second place refusal) texts
+Refuses (Demo loops) texts place refusal = (place ≡ 0) × demo.Refuses loops refusal
 
 -- where a failure is a refusal, P holds of it
 abbrev pub FailCause : (Refusal → Type 0) → Fail → Type 0

@@ -1,9 +1,11 @@
 //! What the program's words ask for.
 
-ghost use Rattle.std.specs.Prelude.{◌≡◌, ◌≢◌, ◌↔◌, IsTrue, ◌<◌, ◌∷◌, [], true, length, slice_get, Some, None, MatchOption, OnSome};
+ghost use Rattle.std.specs.Prelude.{◌≡◌, ◌≢◌, ◌↔◌, IsTrue, ◌<◌, ◌∷◌, [], codes, true, false, length, slice_get, Some, None, MatchOption, OnSome};
+ghost use Rattle.std.specs.Str.{bytes_eq};
 ghost use Rattle.suite_cli.specs.Commands as spec;
 
 use crate::file_words::{is_file_word, is_input};
+use crate::loop_counts::loop_count;
 use suite_base::WordList;
 
 /// The work that the words ask for. A file is named by its word; `-` is standard input.
@@ -21,6 +23,8 @@ pub enum Work<'a> {
     Clay(&'a str, &'a str),
     /// Finds the script that turns the schedules of an original into those of a target: the files of both.
     Chlore(&'a str, &'a str),
+    /// Takes this many loops, from 1 to 32, from C to an edited SCoP and back to a script.
+    Demo(u32),
 }
 
 impl<'a> Work<'a> {
@@ -38,6 +42,7 @@ impl<'a> Work<'a> {
             Work::Audit(file) => one_file(file, k),
             Work::Clay(script, file) => two_files(script, file, k),
             Work::Chlore(original, target) => two_files(original, target, k),
+            Work::Demo(_) => None,
         }
     }
 }
@@ -72,13 +77,26 @@ pub fn read_words(words: &WordList) -> Option<Work<'_>>
 {
     match two_words(words) {
         None => pair_work(words),
-        Some((command, file)) => {
-            if is_file_word(file) {
-                named_work(command, file)
+        Some((command, operand)) => {
+            if command == "demo" {
+                demo_work(operand)
+            } else if is_file_word(operand) {
+                named_work(command, operand)
             } else {
                 None
             }
         }
+    }
+}
+
+/// The work of a demo of as many loops as the word says; `None` exactly where it says no number of loops.
+fn demo_work<'a>(word: &str) -> Option<Work<'a>>
+    ensures { let words = codes "demo" ∷ (word.now ∷ []) in
+        MatchOption result (spec.IsNoCommand words) (λ work. spec.Words words (spec.command_of work)) }
+{
+    match loop_count(word) {
+        None => None,
+        Some(k) => Some(Work::Demo(k)),
     }
 }
 
@@ -156,9 +174,10 @@ fn two_words(words: &WordList) -> Option<(&str, &str)>
     }
 }
 
-/// The work of this command on this file; `None` exactly where it is no command.
+/// The work of this command on this file; `None` exactly where it is no command on one file.
 fn named_work<'a>(command: &str, file: &'a str) -> Option<Work<'a>>
-    requires { spec.is_file_word file.now ≡ true }
+    requires other { bytes_eq command.now (codes "demo") ≡ false }
+    requires file { spec.is_file_word file.now ≡ true }
     ensures { let words = command.now ∷ (file.now ∷ []) in
         MatchOption result (spec.IsNoCommand words) (λ work. spec.Words words (spec.command_of work)) }
 {

@@ -5,6 +5,7 @@
 mod adapters;
 mod commands;
 mod file_words;
+mod loop_counts;
 mod messages;
 mod outcomes;
 mod readings;

@@ -19,6 +19,7 @@ use crate::readings::read_files;
 use crate::recoveries::recovered_text;
 use crate::script_runs::edited_text;
 use candl_deps::with_dependences;
+use demo::demonstrate;
 use dependence_audit::{Counts, audit};
 use region_extract::region_scop;
 use scop_reader::read_scop;
@@ -55,7 +56,8 @@ fn run_work<F: Files, I: Source, O: Sink>(
     input: &mut I,
     out: &mut O,
 ) -> Outcome
-    requires { command.AreFileWords (command.files_of (command.command_of work.now)) }
+    requires files { command.AreFileWords (command.files_of (command.command_of work.now)) }
+    requires loops { command.HasLoops (command.command_of work.now) }
     ensures answers { let before = world_of F.Files I.Source O.Sink files.old input.old out.old in
         let now = world_of F.Files I.Source O.Sink files.new input.new out.new in
         spec.CommandAnswers (command.command_of work.now) before now result }
@@ -81,6 +83,7 @@ fn run_work<F: Files, I: Source, O: Sink>(
 fn output_of(alloc: Global, work: &Work<'_>, texts: &[Text]) -> Result<Text, Outcome>
     requires many { length texts.now ≡ length (command.files_of (command.command_of work.now)) }
     requires short { All (λ text. length text ≤ max_input) texts.now }
+    requires loops { command.HasLoops (command.command_of work.now) }
     ensures ok { IfOk result (λ output. promise.Makes (command.command_of work.now) texts.now output) }
     ensures err { IfErr result (promise.StopCause (command.command_of work.now) texts.now) }
 {
@@ -91,6 +94,7 @@ fn output_of(alloc: Global, work: &Work<'_>, texts: &[Text]) -> Result<Text, Out
         Work::Audit(_) => made_of(1, audited(alloc, only(texts))),
         Work::Clay(_, _) => of_script(alloc, texts),
         Work::Chlore(_, _) => of_pair(alloc, texts),
+        Work::Demo(k) => made_of(0, demonstrate(alloc, *k)),
     }
 }
 

@@ -5,6 +5,7 @@ ghost use Rattle.suite_base.specs.Limits.{max_commands, max_input};
 ghost use Rattle.suite_base.specs.declared.refusals.Fail.TheVariants.{Memory};
 ghost use Rattle.scop_core.specs.Layouts.{layout};
 ghost use Rattle.scop_core.specs.Validity.{IsValid};
+ghost use Rattle.demo.specs.Edits as edit;
 ghost use Rattle.suite_cli.specs.ClayPromise as clay;
 ghost use Rattle.suite_cli.specs.Promises as promise;
 
@@ -45,7 +46,7 @@ pub fn edited_text(alloc: Global, first: &[u8], second: &[u8]) -> Result<Text, O
 fn edited_scop(alloc: Global, scop: &Scop, script: &Script) -> Result<Text, Fail>
     requires few { length script.now ≤ max_commands }
     ensures ok { IfOk result (λ output. clay.IsEditedText scop.now script.now output) }
-    ensures err { IfErr result (promise.FailCause (clay.IsScriptRefused scop.now script.now)) }
+    ensures err { IfErr result (promise.FailCause (edit.IsScriptRefused scop.now script.now)) }
 {
     scop_is_valid(scop);
     match apply(alloc, scop, script) {

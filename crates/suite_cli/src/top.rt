@@ -23,6 +23,9 @@ use suite_base::{Files, Sink, Source, WordList};
 /// - `audit`: the line of the counts of the file's block, each entry of which is the one that the SCoP defines.
 /// - `clay`: the layout of the SCoP in the second file, edited by the script in the first one. For all parameter values in
 ///   the context at which the old SCoP has a run, the edited one has one that ends with the same memory.
+/// - `chlore`: the layout of the script that gives the statements of the SCoP in the first file the schedules of those in
+///   the second one.
+/// - `demo`: the summary of a number of loops taken from C to an edited SCoP and back to a script.
 ///
 /// What every other outcome tells is said by `Answers`; want of memory is the one free answer. `files` is as before where
 /// no file is named but standard input, and what it holds always is; `input` is as before where standard input is not

@@ -25,6 +25,7 @@ output_of-requires g c =
     record {
       many = ap length c.as_slice.ensures ∙ same_number (ReadWhole before now) named c.in-Ok.texts c.in-Ok.ensures.read;
       short = subst Short (sym c.as_slice.ensures) (all_short before now named c.in-Ok.texts c.in-Ok.ensures.read);
+      loops = c.requires.loops;
     }
 
 pub returns-in-Err-clause-answers : goal.returns-in-Err-clause-answers
