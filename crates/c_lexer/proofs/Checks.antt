@@ -1,27 +1,26 @@
 use Rattle.std.proofs.Common.{◌≡◌, true, false, Some, None, Ok, Err, refl}
 use Rattle.std.specs.Prelude.{[], codes}
-use Rattle.c_lexer.specs.Pragmas.{is_scop_line, is_endscop_line, pragma_in}
+use Rattle.c_lexer.specs.Pragmas.{is_scop_line, is_endscop_line}
 use Rattle.c_lexer.specs.Regions.{region_of}
 use Rattle.c_lexer.specs.Tokens.{gap, token_at}
 use Rattle.c_lexer.specs.TokenForms.{is_token_of}
 use Rattle.c_lexer.specs.Separators.{has_close, space, line, comment, AreSeparators, none, one}
 use Rattle.c_lexer.specs.declared.tokens.TokenKind.TheVariants.{Name, Integer, Literal, Sign}
 use Rattle.c_lexer.specs.declared.regions.RegionFail.TheVariants.{NoRegion, OpenRegion, SecondRegion}
-use Rattle.c_lexer.specs.declared.pragmas.Pragma.TheVariants.{Scop, Endscop}
 
-plain_line : pragma_in (codes "#pragma scop") ≡ Some Scop
+plain_line : is_scop_line (codes "#pragma scop") ≡ true
 plain_line = refl
 
 blanks_everywhere : is_scop_line (codes "  # \t pragma   scop \r") ≡ true
 blanks_everywhere = refl
 
-closing_line : pragma_in (codes "#pragma\tendscop") ≡ Some Endscop
+closing_line : is_endscop_line (codes "#pragma\tendscop") ≡ true
 closing_line = refl
 
 blank_wanted : is_scop_line (codes "#pragmascop") ≡ false
 blank_wanted = refl
 
-longer_word : pragma_in (codes "#pragma scops") ≡ None
+longer_word : is_scop_line (codes "#pragma scops") ≡ false
 longer_word = refl
 
 text_behind : is_endscop_line (codes "#pragma endscop // end") ≡ false

@@ -46,7 +46,3 @@ is_endscop_line line = says (codes "endscop") (pragma_rest line)
 abbrev pub is_pragma : Pragma → List ℕ → Bool
 is_pragma Scop line = is_scop_line line
 is_pragma Endscop line = is_endscop_line line
-
--- what a line is as a pragma
-abbrev pub pragma_in : List ℕ → Option Pragma
-pragma_in line = if is_scop_line line then Some Scop else (if is_endscop_line line then Some Endscop else None)

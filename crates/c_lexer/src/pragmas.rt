@@ -12,21 +12,8 @@ pub enum Pragma {
     Endscop,
 }
 
-/// What `line`, without its newline, is as a pragma: apart from blanks `#`, `pragma`, and `scop` or
+/// Whether `line`, without its newline, is this pragma: apart from blanks `#`, `pragma`, and `scop` or
 /// `endscop`, with at least one blank before the last word and any number after `#`.
-pub fn pragma_of(line: &[u8]) -> Option<Pragma>
-    ensures { result ≡ spec.pragma_in line.now }
-{
-    if is_pragma(line, Pragma::Scop) {
-        Some(Pragma::Scop)
-    } else if is_pragma(line, Pragma::Endscop) {
-        Some(Pragma::Endscop)
-    } else {
-        None
-    }
-}
-
-/// Whether `line` is this pragma.
 pub fn is_pragma(line: &[u8], wanted: Pragma) -> bool
     ensures { result ≡ spec.is_pragma wanted line.now }
 {
