@@ -1,7 +1,8 @@
 use Rattle.std.proofs.Common.{◌≡◌, true, false, Some, None, Ok, Err, refl}
-use Rattle.std.specs.Prelude.{[], codes}
+use Rattle.std.specs.Prelude.{[], ◌∷◌, codes}
 use Rattle.c_lexer.specs.Pragmas.{is_scop_line, is_endscop_line}
 use Rattle.c_lexer.specs.Regions.{region_of}
+use Rattle.c_lexer.specs.RegionLines.{HasRegion, HasSecond}
 use Rattle.c_lexer.specs.Tokens.{gap, token_at}
 use Rattle.c_lexer.specs.TokenForms.{is_token_of}
 use Rattle.c_lexer.specs.Separators.{has_close, space, line, comment, AreSeparators, none, one}
@@ -40,6 +41,39 @@ open_region = refl
 
 second_region : region_of (codes "#pragma scop\n#pragma endscop\n\n#pragma scop\n") ≡ Err (SecondRegion 4)
 second_region = refl
+
+-- the lines of a region, where the last line has no newline
+region_lines : HasRegion (codes "x\n#pragma scop\na;\nb;\n#pragma endscop") (record { from = 15; to = 21; first = record { line = 3; column = 1 } })
+region_lines = record {
+  before = codes "x" ∷ [];
+  scop = codes "#pragma scop";
+  after_scop = codes "a;" ∷ codes "b;" ∷ codes "#pragma endscop" ∷ [];
+  inside = codes "a;" ∷ codes "b;" ∷ [];
+  endscop = codes "#pragma endscop";
+  after_endscop = [];
+  opens = record { cut = refl; passed = refl; none_before = refl };
+  closes = record { cut = refl; passed = refl; none_before = refl };
+  alone = refl;
+  from = refl;
+  to = refl;
+  has = refl;
+  first = refl;
+}
+
+-- the line of another `scop` line, behind an `endscop` line
+second_line : HasSecond (codes "#pragma scop\n#pragma endscop\n\n#pragma scop\n") 4
+second_line = record {
+  before = [];
+  scop = codes "#pragma scop";
+  after_scop = codes "#pragma endscop" ∷ [] ∷ codes "#pragma scop" ∷ [];
+  between = codes "#pragma endscop" ∷ [] ∷ [];
+  second = codes "#pragma scop";
+  after_second = [];
+  opens = record { cut = refl; passed = refl; none_before = refl };
+  closed = refl;
+  again = record { cut = refl; passed = refl; none_before = refl };
+  number_is = refl;
+}
 
 -- what separates: blanks, newlines and both comments; one without end does not
 gap_of_all : gap (codes " \t/*a**/// b\n/**/x") ≡ 17

@@ -1,6 +1,7 @@
 pub mod RegionLemmas
 pub mod PlaceLemmas
 pub mod RegionBounds
+pub mod RegionLines
 pub mod TokenLemmas
 pub mod ReadingLemmas
 pub mod NumberLemmas

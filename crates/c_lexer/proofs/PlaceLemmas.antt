@@ -80,7 +80,7 @@ cut_further b s first line more t f (rest, cut) =
       },
     )
 
-cut_of : (s line : List ℕ) (more : List (List ℕ)) → lines s ≡ line ∷ more → HasCut s line more
+pub cut_of : (s line : List ℕ) (more : List (List ℕ)) → lines s ≡ line ∷ more → HasCut s line more
 cut_of [] line more e = absurd (cc)
 cut_of (b ∷ s) line more e = elim (bool_tells (b == 10)) [
   | inl t ↦ cut_here b s line more (eqb-true b 10 t) (simp t at e)

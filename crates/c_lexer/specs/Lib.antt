@@ -3,6 +3,7 @@ pub mod Places
 pub mod Regions
 pub mod Tokens
 pub mod Readings
+pub mod RegionLines
 pub mod TokenForms
 pub mod Separators
 pub mod Pieces

@@ -1,6 +1,7 @@
-//! The laws of cutting a text into tokens, for every text: functions that do nothing, and whose
-//! contracts are the laws.
+//! The laws of cutting a text into its region and into tokens, for every text: functions that do
+//! nothing, and whose contracts are the laws.
 
+ghost use Rattle.c_lexer.specs.RegionLines.{RegionsStandBetweenPragmas};
 ghost use Rattle.c_lexer.specs.Separators.{GapsAreSeparators};
 ghost use Rattle.c_lexer.specs.TokenForms.{TokensAreLongest, NoTokenIsMissed, TokensHaveOneKind};
 
@@ -24,4 +25,12 @@ pub fn tokens_have_one_kind()
 /// them follows.
 pub fn gaps_are_separators()
     ensures { GapsAreSeparators }
+{}
+
+/// A text has a region exactly if an `endscop` line comes after its first `scop` line and no other
+/// `scop` line does: the lines between this `scop` line and the first `endscop` line after it, each
+/// with its newline. The other answers tell what fails, `OpenRegion` and `SecondRegion` with the number
+/// of the `scop` line.
+pub fn regions_stand_between_pragmas()
+    ensures { RegionsStandBetweenPragmas }
 {}
