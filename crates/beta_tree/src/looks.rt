@@ -2,7 +2,7 @@
 
 ghost use Rattle.std.specs.Prelude.{◌≡◌, [], ◌∷◌, ◌++◌, length, not, false, replicate, IfOk, MatchOption};
 ghost use Rattle.std.specs.Option.{option_copied};
-ghost use Rattle.beta_tree.specs.Vectors.{after as what_follows, no_statement, is_leaf as has_leaf, is_loop as has_loop, children_of, IsDense};
+ghost use Rattle.beta_tree.specs.Vectors.{after as what_follows, no_statement, is_leaf as has_leaf, children_of, IsDense};
 ghost use Rattle.beta_tree.specs.Edits.{is_permutation_of, has_all_below};
 
 use std::alloc::Global;
@@ -47,13 +47,6 @@ pub fn is_leaf(vectors: &List<List<u32>>, prefix: &[u32]) -> bool
         }
     }
     false
-}
-
-/// Whether `prefix` is a loop: it isn't empty, vectors begin with it and none equals it.
-pub fn is_loop(vectors: &List<List<u32>>, prefix: &[u32]) -> bool
-    ensures { result ≡ has_loop prefix.now vectors.now }
-{
-    !prefix.is_empty() && is_under(vectors, prefix) && !is_leaf(vectors, prefix)
 }
 
 /// The number of children of `prefix`. Since they are numbered without gaps it is one more than the
