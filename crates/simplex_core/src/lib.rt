@@ -7,7 +7,8 @@
 //! 0 or at least 0. Pivots exchange the variable of a row and that of a column: first equalities become
 //! columns, then free variables become rows, and then by Bland's rule each inequality whose value is
 //! negative becomes a column. Where no column can raise it, the row itself is the contradiction: its cells
-//! are the multipliers of the system's rows.
+//! are the multipliers of the system's rows. Systems that begin alike are searched from a warm start: their
+//! further rows join the tableau at which the search over their common rows has ended.
 //!
 //! Nothing of this is proved but that it ends safely, so whoever calls it checks what it has found.
 #![tactic(auto)]
@@ -18,5 +19,7 @@ mod pivots;
 mod searches;
 mod starts;
 mod tableaux;
+mod warm_starts;
 
 pub use searches::{Candidate, search};
+pub use warm_starts::WarmStart;

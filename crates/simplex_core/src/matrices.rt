@@ -1,6 +1,6 @@
 //! A matrix of 64-bit cells.
 
-ghost use Rattle.std.specs.Prelude.{◌≡◌, ◌<◌, IfOk, IfSome};
+ghost use Rattle.std.specs.Prelude.{◌≡◌, ◌<◌, IfOk, IfSome, ◌+◌, length};
 
 use crate::divisors::{gcd_wide, quotient, sum_of_products};
 use std::alloc::Global;
@@ -38,6 +38,24 @@ impl Matrix {
         Ok(Some(Matrix {
             rows,
             columns,
+            cells,
+        }))
+    }
+
+    /// The matrix with `more` rows of zeros behind its own; `None` where it has too many cells to be counted.
+    pub fn with_rows(&self, alloc: Global, more: usize) -> Result<Option<Matrix>, NoMemory>
+        ensures { IfOk result (λ made. IfSome made (λ m. m ≡ record { rows = self.now.rows + more; columns = self.now.columns })) }
+    {
+        let Some(rows) = self.rows.checked_add(more) else {
+            return Ok(None);
+        };
+        let Some(count) = more.checked_mul(self.columns) else {
+            return Ok(None);
+        };
+        let cells = with_zeros(alloc, self.cells.as_slice(), count)?;
+        Ok(Some(Matrix {
+            rows,
+            columns: self.columns,
             cells,
         }))
     }
@@ -140,4 +158,16 @@ impl Matrix {
         }
         Some(())
     }
+}
+
+// The cells, and behind them so many zeros.
+fn with_zeros(alloc: Global, cells: &[i64], count: usize) -> Result<Vec<i64>, NoMemory>
+    ensures { IfOk result (λ made. length made.items ≡ length cells.now + count) }
+{
+    let mut made = Vec::with_capacity(alloc, cells.len().saturating_add(count))?;
+    made.extend_from_slice(cells)?;
+    for _ in 0..count {
+        made.push(0)?;
+    }
+    Ok(made)
 }

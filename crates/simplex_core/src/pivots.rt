@@ -3,7 +3,7 @@
 ghost use Rattle.std.specs.Prelude.{◌≡◌, ◌<◌, IfSome};
 ghost use Rattle.simplex_core.specs.Ends.{IsAmong};
 
-use crate::tableaux::{Tableau, Variable};
+use crate::tableaux::{Range, Tableau, Variable};
 
 /// How a search ends.
 #[derive(Clone, Copy, Debug, PartialEq, Eq)]
@@ -31,14 +31,14 @@ pub fn solve(tableau: &mut Tableau) -> Option<End>
     raise_all(tableau)
 }
 
-// Makes each equality a column. One that has no free variable left must be 0 already.
+// Makes each equality a column. One that has no other variable left must be 0 already.
 fn substitute_equalities(tableau: &mut Tableau) -> Option<End>
     ensures size { tableau.new ≡ tableau.old }
     ensures row { IfSome result (IsAmong tableau.old.rows) }
 {
     for i in 0..tableau.row_count() {
         if is_equality(tableau, i) {
-            match free_column(tableau, i) {
+            match open_column(tableau, i) {
                 Some(c) => tableau.pivot(i, c)?,
                 None => {
                     if tableau.constant(i) != 0 {
@@ -55,10 +55,7 @@ fn substitute_equalities(tableau: &mut Tableau) -> Option<End>
 fn is_equality(tableau: &Tableau, i: usize) -> bool
     requires { i < tableau.now.rows }
 {
-    match tableau.row_variable(i) {
-        Variable::Zero(_) => true,
-        _ => false,
-    }
+    tableau.row_variable(i).range() == Range::Zero
 }
 
 // Makes each free variable a row.
@@ -67,7 +64,7 @@ fn free_variables(tableau: &mut Tableau) -> Option<()>
 {
     for i in 0..tableau.row_count() {
         if let Variable::AtLeastZero(_) = tableau.row_variable(i) {
-            if let Some(c) = free_column(tableau, i) {
+            if let Some(c) = least_column(tableau, i, Range::Free) {
                 tableau.pivot(i, c)?;
             }
         }
@@ -92,8 +89,19 @@ fn raise_all(tableau: &mut Tableau) -> Option<End>
     None
 }
 
-// The column of a free variable whose cell in row `i` is the least that is not 0.
-fn free_column(tableau: &Tableau, i: usize) -> Option<usize>
+// The column with which an equality in row `i` is exchanged: one of a free variable, else of an inequality.
+fn open_column(tableau: &Tableau, i: usize) -> Option<usize>
+    requires { i < tableau.now.rows }
+    ensures { IfSome result (λ c. c < tableau.now.columns) }
+{
+    match least_column(tableau, i, Range::Free) {
+        Some(c) => Some(c),
+        None => least_column(tableau, i, Range::AtLeastZero),
+    }
+}
+
+// The column of a variable of this range whose cell in row `i` is the least that is not 0.
+fn least_column(tableau: &Tableau, i: usize, range: Range) -> Option<usize>
     requires { i < tableau.now.rows }
     ensures { IfSome result (λ c. c < tableau.now.columns) }
 {
@@ -101,20 +109,12 @@ fn free_column(tableau: &Tableau, i: usize) -> Option<usize>
     let mut least = u64::MAX;
     for j in 0..tableau.column_count() {
         let size = tableau.cell(i, j).unsigned_abs();
-        if size != 0 && size < least && is_free(tableau.column_variable(j)) {
+        if size != 0 && size < least && tableau.column_variable(j).range() == range {
             least = size;
             found = Some(j);
         }
     }
     found
-}
-
-// Whether the variable is one of the system's.
-fn is_free(variable: Variable) -> bool {
-    match variable {
-        Variable::Free(_) => true,
-        _ => false,
-    }
 }
 
 // The row of the least inequality whose value is negative.

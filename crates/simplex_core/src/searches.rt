@@ -29,10 +29,15 @@ pub fn search(alloc: Global, system: &Part) -> Result<Candidate, NoMemory> {
     let Some(mut tableau) = start(alloc, system)? else {
         return Ok(Candidate::Nothing);
     };
-    match solve(&mut tableau) {
+    search_over(alloc, &mut tableau)
+}
+
+/// Pivots until the tableau shows a point or a contradiction, and answers that.
+pub fn search_over(alloc: Global, tableau: &mut Tableau) -> Result<Candidate, NoMemory> {
+    match solve(tableau) {
         None => Ok(Candidate::Nothing),
-        Some(End::Solved) => point(alloc, &tableau),
-        Some(End::Contradiction(r)) => refutation(alloc, &tableau, r),
+        Some(End::Solved) => point(alloc, tableau),
+        Some(End::Contradiction(r)) => refutation(alloc, tableau, r, tableau.row_count()),
     }
 }
 
@@ -95,11 +100,16 @@ fn numerator(constant: i64, denominator: i64, common: i128) -> Option<Coeff> {
     Coeff::new(factor.checked_mul(i128::from(constant))?)
 }
 
-// The multipliers that row `r`, which cannot hold, has for the system's rows.
-fn refutation(alloc: Global, tableau: &Tableau, r: usize) -> Result<Candidate, NoMemory>
+/// The multipliers that row `r`, which cannot hold, has for the `count` rows of a system.
+pub fn refutation(
+    alloc: Global,
+    tableau: &Tableau,
+    r: usize,
+    count: usize,
+) -> Result<Candidate, NoMemory>
     requires { r < tableau.now.rows }
 {
-    let mut multipliers = vec![in alloc; Coeff::ZERO; tableau.row_count()]?;
+    let mut multipliers = vec![in alloc; Coeff::ZERO; count]?;
     fill_multipliers(multipliers.as_mut_slice(), tableau, r);
     let mut certificate = Certificate::new(alloc);
     for multiplier in multipliers.as_slice() {

@@ -61,8 +61,8 @@ fn row_variables(alloc: Global, system: &Part) -> Result<Vec<Variable>, NoMemory
     Ok(made)
 }
 
-// The value of row `i`, which is of this kind.
-fn value_of(kind: RowKind, i: usize) -> Variable {
+/// The value of row `i`, which is of this kind.
+pub fn value_of(kind: RowKind, i: usize) -> Variable {
     match kind {
         RowKind::Equal => Variable::Zero(i),
         RowKind::AtLeast => Variable::AtLeastZero(i),

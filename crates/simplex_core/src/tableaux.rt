@@ -1,11 +1,13 @@
 //! The tableau: a matrix whose rows and columns have variables. Behind the columns of variables stand the
 //! constants and the denominators.
 
-ghost use Rattle.std.specs.Prelude.{◌≡◌, ◌<◌, ◌+◌, length, OnSome};
+ghost use Rattle.std.specs.Prelude.{◌≡◌, ◌<◌, ◌+◌, length, OnSome, IfOk, IfSome};
 
 use crate::divisors::gcd;
 use crate::matrices::Matrix;
+use std::alloc::Global;
 use std::marker::Model;
+use suite_base::NoMemory;
 
 /// A variable of the tableau.
 #[derive(Clone, Copy, Debug, PartialEq, Eq)]
@@ -16,6 +18,32 @@ pub enum Variable {
     Zero(usize),
     /// The value of this row of the system, an inequality, which is at least 0.
     AtLeastZero(usize),
+}
+
+/// What a variable of the tableau may be.
+#[derive(Clone, Copy, Debug, PartialEq, Eq)]
+pub enum Range {
+    Free,
+    Zero,
+    AtLeastZero,
+}
+
+/// Where a variable stands in a tableau.
+#[derive(Clone, Copy, Debug, PartialEq, Eq)]
+pub enum Standing {
+    Column(usize),
+    Row(usize),
+}
+
+impl Variable {
+    /// What the variable may be.
+    pub fn range(self) -> Range {
+        match self {
+            Variable::Free(_) => Range::Free,
+            Variable::Zero(_) => Range::Zero,
+            Variable::AtLeastZero(_) => Range::AtLeastZero,
+        }
+    }
 }
 
 /// The tableau. Contracts see the numbers of its rows and columns.
@@ -47,6 +75,93 @@ impl Tableau {
             cells,
             rows,
             columns,
+        }
+    }
+
+    /// The tableau with further rows of these variables, whose values are 0.
+    pub fn with_rows(&self, alloc: Global, more: &[Variable]) -> Result<Option<Tableau>, NoMemory>
+        ensures { IfOk result (λ made. IfSome made (λ t. t ≡ record { rows = self.now.rows + length more.now; columns = self.now.columns })) }
+    {
+        let Some(cells) = self.cells.with_rows(alloc, more.len())? else {
+            return Ok(None);
+        };
+        let mut rows = Vec::with_capacity(alloc, self.rows.len().saturating_add(more.len()))?;
+        rows.extend_from_slice(self.rows.as_slice())?;
+        rows.extend_from_slice(more)?;
+        let columns = Vec::from_slice(alloc, self.columns.as_slice())?;
+        let mut made = Tableau {
+            cells,
+            rows,
+            columns,
+        };
+        made.set_denominators(self.rows.len());
+        Ok(Some(made))
+    }
+
+    // Makes the denominators of the rows from row `first` on 1.
+    fn set_denominators(&mut self, first: usize)
+        ensures { self.new ≡ self.old }
+    {
+        let last = self.columns.len() + 1;
+        for i in first..self.row_count() {
+            self.cells.set(i, last, 1);
+        }
+    }
+
+    /// Adds `factor` times the variable that stands there to the value of row `i`. `None` where a cell
+    /// passes 64 bits, or no variable stands there.
+    pub fn add_variable(&mut self, i: usize, factor: i64, standing: Standing) -> Option<()>
+        requires { i < self.old.rows }
+        ensures { self.new ≡ self.old }
+    {
+        if factor == 0 {
+            return Some(());
+        }
+        match standing {
+            Standing::Column(j) => self.add_column(i, factor, j),
+            Standing::Row(r) => self.add_row(i, factor, r),
+        }
+    }
+
+    /// Adds `value` to the value of row `i`. `None` where the constant passes 64 bits.
+    pub fn add_constant(&mut self, i: usize, value: i64) -> Option<()>
+        requires { i < self.old.rows }
+        ensures { self.new ≡ self.old }
+    {
+        let constants = self.columns.len();
+        self.add_column(i, value, constants)
+    }
+
+    // Adds `factor` times the variable of column `j` to the value of row `i`, or the factor where that is
+    // the column of constants.
+    fn add_column(&mut self, i: usize, factor: i64, j: usize) -> Option<()>
+        requires { i < self.old.rows }
+        ensures { self.new ≡ self.old }
+    {
+        if j > self.columns.len() {
+            return None;
+        }
+        let added = factor.checked_mul(self.denominator(i))?;
+        let sum = self.cells.at(i, j).checked_add(added)?;
+        self.cells.set(i, j, sum);
+        Some(())
+    }
+
+    // Adds `factor` times the value of row `r` to that of row `i`.
+    fn add_row(&mut self, i: usize, factor: i64, r: usize) -> Option<()>
+        requires { i < self.old.rows }
+        ensures { self.new ≡ self.old }
+    {
+        if r >= self.row_count() {
+            return None;
+        }
+        let denominator = self.denominator(r);
+        let own = self.denominator(i);
+        if denominator == 1 && own == 1 {
+            self.cells.add_multiple(i, factor, r)
+        } else {
+            self.cells
+                .combine(denominator, i, factor.checked_mul(own)?, r)
         }
     }
 
