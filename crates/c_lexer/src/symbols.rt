@@ -4,6 +4,7 @@ ghost use Rattle.std.specs.Prelude.{◌≡◌, ◌≢◌, map, ◌<◌, ◌+◌,
 ghost use Rattle.c_lexer.specs.Symbols as spec;
 
 use crate::tokens::TokenKind;
+use suite_base::MAX_WEIGHT;
 
 /// What stands next: a token by its role in the grammar, the end, or what is none of both.
 #[derive(Clone, Copy, Debug, PartialEq, Eq)]
@@ -98,9 +99,6 @@ pub const WORDS: [(&[u8], Symbol); 36] = [
     (b"while", Symbol::Reserved),
 ];
 
-// The greatest coefficient, 2^127 - 1.
-const LIMIT: u128 = 170141183460469231731687303715884105727;
-
 /// Whether two symbols are the same.
 pub fn same_symbol(a: Symbol, b: Symbol) -> bool
     ensures value { result ≡ spec.same_symbol a b }
@@ -148,12 +146,12 @@ fn is_too_large(digits: &[u8]) -> bool
 {
     let mut value: u128 = 0;
     for b in digits {
-        if value > LIMIT / 10 {
+        if value > MAX_WEIGHT / 10 {
             return true;
         }
         value = value_after(value, *b);
     }
-    value > LIMIT
+    value > MAX_WEIGHT
 }
 
 // The number that one digit more makes of `value`.

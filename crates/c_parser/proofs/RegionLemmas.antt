@@ -2,6 +2,7 @@
 use Rattle.std.proofs.Common.{◌≡◌, ℕ, List, Result, Some, Ok, Err, IfOk, inl, inr, ap, sym, ◌∙◌, subst, arith}
 use Rattle.suite_base.specs.declared.refusals.Fail.{Fail}
 use Rattle.suite_base.specs.declared.refusals.Fail.TheVariants as fail
+use Rattle.suite_base.specs.Limits.{max_nests, max_loops}
 use Rattle.c_lexer.specs.declared.regions.Span.{Span}
 use Rattle.c_lexer.specs.declared.stops.Stop.{Stop}
 use Rattle.c_lexer.specs.declared.stops.Stop.TheVariants.{Memory, Refused}
@@ -28,8 +29,8 @@ abbrev read_nodes : List Node → Result (List Node) Stop → List Node
 read_nodes nodes (Ok all) = all
 read_nodes nodes (Err e) = nodes
 
-answered : (r : Reading) (o : Outcome (List Node)) (nodes : List Node) → Yields r (λ all m. Derived 64 12 all r) o → answer_of o ≡ Ok nodes → Derived 64 12 nodes r
-answered r (Ok y) nodes h e = let P : List Node → Type 0 = λ x. Derived 64 12 x r in subst P (ap (read_nodes nodes) e) h.1
+answered : (r : Reading) (o : Outcome (List Node)) (nodes : List Node) → Yields r (λ all m. Derived max_nests max_loops all r) o → answer_of o ≡ Ok nodes → Derived max_nests max_loops nodes r
+answered r (Ok y) nodes h e = let P : List Node → Type 0 = λ x. Derived max_nests max_loops x r in subst P (ap (read_nodes nodes) e) h.1
 answered r (Err x) nodes h e = absurd (cc)
 
 never : (refusal : Refusal) → IsLimit ⊥ refusal → ⊥
@@ -55,10 +56,10 @@ comes_answered (Err (Refused refusal)) nodes m result h e = absurd (never refusa
 
 -- what is derived is read
 pub read_complete : (bytes : List ℕ) (span : Span) (result : Result Region Fail) → Parses bytes span result → Completes bytes span result
-read_complete bytes span (Ok found) h nodes x = comes_answered _ nodes x.0 (Ok found) (region_comes ⊥ 64 12 (inl (omega arith)) (inl (omega arith)) nodes (reading_at bytes span) x) h.1
+read_complete bytes span (Ok found) h nodes x = comes_answered _ nodes x.0 (Ok found) (region_comes ⊥ max_nests max_loops (inl (omega arith)) (inl (omega arith)) nodes (reading_at bytes span) x) h.1
 read_complete bytes span (Err fail.Memory) h nodes x = tt
 read_complete bytes span (Err (fail.Refused refusal)) h nodes x =
-    comes_answered _ nodes x.0 (Err (fail.Refused refusal)) (region_comes ⊥ 64 12 (inl (omega arith)) (inl (omega arith)) nodes (reading_at bytes span) x) h
+    comes_answered _ nodes x.0 (Err (fail.Refused refusal)) (region_comes ⊥ max_nests max_loops (inl (omega arith)) (inl (omega arith)) nodes (reading_at bytes span) x) h
 
 -- ---- causes
 
@@ -83,7 +84,7 @@ caused r (NumberTooLarge p) (k, ik, sound, c, fails) = (k, sound, ap Some (sym c
 caused r (BadSyntax p) (k, ik, sound, c, fails) =
     (k, sound, ap Some (sym c), λ nests loops x nodes d e. no_tree p nodes e.0 (region x) (fails x d) (region_comes (Unit {0}) nests loops (inr tt) (inr tt) nodes x e))
 caused r (TooDeep p) (k, ik, sound, c, fails) =
-    (k, sound, ap Some (sym c.0), (c.1, λ x nodes d e. no_room p nodes e.0 (region x) (fails x d) (region_comes ⊥ 64 12 (inl (omega arith)) (inl (omega arith)) nodes x e)))
+    (k, sound, ap Some (sym c.0), (c.1, λ x nodes d e. no_room p nodes e.0 (region x) (fails x d) (region_comes ⊥ max_nests max_loops (inl (omega arith)) (inl (omega arith)) nodes x e)))
 caused r _ (k, ik, sound, c, fails) = absurd c
 
 abbrev refusal_in : Refusal → Result (List Node) Stop → Refusal

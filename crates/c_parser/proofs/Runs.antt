@@ -4,6 +4,7 @@ use Rattle.std.proofs.lemmas.Bool.Decides.{eqb_tells}
 use Rattle.suite_base.specs.declared.places.Place.{Place}
 use Rattle.suite_base.specs.declared.refusals.Refusal.{Refusal}
 use Rattle.suite_base.specs.declared.refusals.Refusal.TheVariants.{BadToken, NumberTooLarge, BadSyntax, TooDeep}
+use Rattle.suite_base.specs.Limits.{max_nests}
 use Rattle.c_lexer.specs.declared.stops.Stop.TheVariants.{Memory, Refused}
 use Rattle.c_lexer.specs.declared.symbols.Symbol.{Symbol}
 use Rattle.c_lexer.specs.declared.symbols.Symbol.TheVariants as s
@@ -232,7 +233,7 @@ module _ (r : Reading) where
   limit_then true q f i sound deep h = (i, omega arith, sound, (refl, deep refl), λ x d. refl)
   limit_then false q f i sound deep h = h refl
 
-  pub open_next : {B : Type 0} (nests : ℕ) (q : Reading → Parser B) (i : ℕ) → Sound i r → 64 ≤ nests + nests_among i r → (0 < nests → Runs q i (q r (later i r)))
+  pub open_next : {B : Type 0} (nests : ℕ) (q : Reading → Parser B) (i : ℕ) → Sound i r → max_nests ≤ nests + nests_among i r → (0 < nests → Runs q i (q r (later i r)))
       → Runs (λ x. open_nest nests >> q x) i ((open_nest nests >> q r) (later i r))
   unfolding open_nest
   open_next nests q i sound room h =

@@ -2,6 +2,7 @@
 use Rattle.std.proofs.Common.{◌≡◌, ℕ, zero, suc, ◌≤◌, ◌<◌, ◌==◌, Bool, true, false, if◌then◌else◌, List, [], ◌∷◌, ◌++◌, Option, Some, None, Ok, Err, inl, inr, refl, ap, sym, subst, ◌∙◌, arith, append_assoc}
 use Rattle.std.proofs.lemmas.List.{append-nil}
 use Rattle.std.proofs.lemmas.Slice.Eq.{bytes_eq-Decides}
+use Rattle.suite_base.specs.Limits.{max_nests, max_loops}
 use Rattle.c_lexer.specs.declared.symbols.Symbol.{Symbol}
 use Rattle.c_lexer.specs.declared.symbols.Symbol.TheVariants as s
 use Rattle.c_lexer.specs.declared.pieces.Piece.{Piece}
@@ -314,17 +315,17 @@ statement_whole Deep (suc wanted) (suc nests) room limit loops space =
     level_whole Deep (suc wanted) (suc nests) room (statement nests) (d.statement wanted) _ (statement_takes nests) (begins_so wanted)
     (λ limit loops space some. statement_whole Deep wanted nests (less_room Deep wanted nests room) limit loops space) limit loops space
 
-module _ (Deep : Type 0) (wanted limit : ℕ) (room : Room Deep wanted 64) (space : Room Deep limit 12) where
+module _ (Deep : Type 0) (wanted limit : ℕ) (room : Room Deep wanted max_nests) (space : Room Deep limit max_loops) where
   from_comes : (nodes : List Node) (n : ℕ) (found : List Node) (r m : Reading) → left r ≤ n → each (d.statement wanted limit) nodes r m → symbol m ≡ s.End
       → Comes Deep (found ++ nodes) m (region_from n found r)
   unfolding region_from
   from_comes nodes zero found r m fuel x end = absurd (omega arith)
   from_comes [] (suc n) found r m fuel x end = choose_yes Deep (found ++ []) m r s.End _ _ (ap symbol x ∙ end) (sym (append-nil found), x)
   from_comes (t ∷ more) (suc n) found r m fuel (r1, x, y) end =
-      let whole = statement_whole Deep wanted 64 room limit 12 space in
+      let whole = statement_whole Deep wanted max_nests room limit max_loops space in
       choose_no Deep (found ++ t ∷ more) m r s.End _ _
       (λ e. let f : begins_statement (symbol r) ≡ true = whole.begins t r r1 x in let k : false ≡ true = sym (ap begins_statement e) ∙ f in absurd (cc))
-      (goes_far Deep t r r1 (found ++ t ∷ more) m _ (statement 64 12 r) _ (statement_takes 64 12 r) (whole.comes t r r1 x)
+      (goes_far Deep t r r1 (found ++ t ∷ more) m _ (statement max_nests max_loops r) _ (statement_takes max_nests max_loops r) (whole.comes t r r1 x)
       (λ f. subst (λ k. Comes Deep k m (region_from n (found ++ t ∷ []) r1)) (append_assoc found (t ∷ []) more)
       (from_comes more n (found ++ t ∷ []) r1 m (omega (arith, f, fuel)) y end)))
 

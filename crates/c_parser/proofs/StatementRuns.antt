@@ -1,5 +1,6 @@
 -- The rules of statements look no further than the next token, and stop for the causes that are stated.
 use Rattle.std.proofs.Common.{◌≡◌, ℕ, zero, suc, ◌+◌, ◌≤◌, ◌<◌, ◌==◌, Bool, true, false, if◌then◌else◌, List, [], ◌∷◌, ◌++◌, Option, Some, None, Ok, Err, inl, refl, ap, sym, subst, ◌∙◌, arith}
+use Rattle.suite_base.specs.Limits.{max_nests, max_loops}
 use Rattle.c_lexer.specs.declared.symbols.Symbol.{Symbol}
 use Rattle.c_lexer.specs.declared.symbols.Symbol.TheVariants as s
 use Rattle.c_lexer.specs.declared.pieces.Piece.{Piece}
@@ -255,14 +256,14 @@ module _ (r : Reading) where
 
 -- so many tokens were taken, and a nest or a loop that is opened beyond its limit has as many openings before it
 abbrev pub Ahead : Reading → ℕ → ℕ → ℕ → Type 0
-Ahead r n l i = Sound i r × (64 ≤ n + nests_among i r) × (12 ≤ l + loops_among i r)
+Ahead r n l i = Sound i r × (max_nests ≤ n + nests_among i r) × (max_loops ≤ l + loops_among i r)
 
 ahead_on : (r : Reading) (n l i k : ℕ) → i ≤ k → Ahead r n l i → Sound k r → Ahead r n l k
 ahead_on r n l i k h d sound = let m = more_nests i k r h in let p = more_loops i k r h in (sound, omega (arith, d.1, m), omega (arith, d.2, p))
 
 -- the same in one nest more
 abbrev Nested : Reading → ℕ → ℕ → ℕ → Type 0
-Nested r n l i = Sound i r × (65 ≤ n + nests_among i r) × (12 ≤ l + loops_among i r)
+Nested r n l i = Sound i r × (max_nests < n + nests_among i r) × (max_loops ≤ l + loops_among i r)
 
 nested_on : (r : Reading) (n l i k : ℕ) → i ≤ k → Nested r n l i → Sound k r → Nested r n l k
 nested_on r n l i k h d sound = let m = more_nests i k r h in let p = more_loops i k r h in (sound, omega (arith, d.1, m), omega (arith, d.2, p))
@@ -274,7 +275,7 @@ enter_nest r n l i k d e good one =
 
 module _ (r : Reading) (nests loops : ℕ) (inner body : Parser Node) (P : Reading → Node → Reading → Type 0) (taken : (m : Reading) → Takes m (P m) (inner m))
     (inners : (i : ℕ) → Nested r nests loops i → Runs r (λ x. inner) i (inner (later i r)))
-    (bodies : (i : ℕ) → Sound i r → 64 ≤ nests + nests_among i r → 13 ≤ loops + loops_among i r → Runs r (λ x. body) i (body (later i r))) where
+    (bodies : (i : ℕ) → Sound i r → max_nests ≤ nests + nests_among i r → max_loops < loops + loops_among i r → Runs r (λ x. body) i (body (later i r))) where
   loop_then : {B : Type 0} (q : Reading → Parser B) (i : ℕ) → Ahead r nests loops i → symbol (later i r) ≡ s.For → Runs r q i (q r (later i r))
       → Runs r (λ x. open_loop loops >> q x) i ((open_loop loops >> q r) (later i r))
   unfolding open_loop
@@ -389,7 +390,7 @@ statement_runs r (suc nests) loops i d =
 
 module _ (r : Reading) where
   abbrev One : (List Node → Parser (List Node)) → List Node → Parser (List Node)
-  One f found = statement 64 12 >>= (λ next. f (found ++ next ∷ []))
+  One f found = statement max_nests max_loops >>= (λ next. f (found ++ next ∷ []))
 
   abbrev NodesBy : (List Node → Parser (List Node)) → List Node → Symbol → Parser (List Node)
   NodesBy f found kind = if same_symbol kind s.End then pure found else One f found
@@ -406,7 +407,7 @@ module _ (r : Reading) where
     where
       go : (b : Bool) → (if b then pure found else One f found) m ≡ (if b then pure found else One g found) m
       go true = refl
-      go false = alike_far m _ (statement 64 12 m) _ _ (statement_takes 64 12 m) (λ a l d. h (found ++ a ∷ []) l d)
+      go false = alike_far m _ (statement max_nests max_loops m) _ _ (statement_takes max_nests max_loops m) (λ a l d. h (found ++ a ∷ []) l d)
 
   abbrev MoreNodes : List Node → Parser (List Node)
   MoreNodes = again r region_from Nodes nodes_turn nodes_alike
@@ -418,8 +419,8 @@ module _ (r : Reading) where
       peek_then r (λ z. NodesBy MoreNodes (found z)) i _ (choose r (same_symbol (symbol (later i r)) s.End)
       (λ z. pure (found z)) (λ z. One MoreNodes (found z)) (pure (found r)) (One (region_from n) (found r)) i
       (λ e. pure_runs r found i sound)
-      (λ e. runs_far r (λ z. statement 64 12) (λ z next. MoreNodes (found z ++ next ∷ [])) (λ next. region_from n (found r ++ next ∷ [])) i _ (statement 64 12 (later i r))
-      (statement_runs r 64 12 i (sound, omega arith, omega arith)) (statement_takes 64 12 (later i r)) (λ v k ik on. rec (λ z. found z ++ v z ∷ []) k ik on on)))
+      (λ e. runs_far r (λ z. statement max_nests max_loops) (λ z next. MoreNodes (found z ++ next ∷ [])) (λ next. region_from n (found r ++ next ∷ [])) i _ (statement max_nests max_loops (later i r))
+      (statement_runs r max_nests max_loops i (sound, omega arith, omega arith)) (statement_takes max_nests max_loops (later i r)) (λ v k ik on. rec (λ z. found z ++ v z ∷ []) k ik on on)))
 
   pub region_runs : Runs r (λ x. region) 0 (region r)
   unfolding region

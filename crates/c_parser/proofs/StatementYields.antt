@@ -3,6 +3,7 @@ use Rattle.std.proofs.Common.{◌≡◌, ℕ, zero, suc, ◌<◌, ◌==◌, Bool
 use Rattle.std.proofs.lemmas.List.{append-nil}
 use Rattle.std.specs.Str.{bytes_eq}
 use Rattle.std.proofs.lemmas.Slice.Eq.{bytes_eq-Decides}
+use Rattle.suite_base.specs.Limits.{max_nests, max_loops}
 use Rattle.c_lexer.specs.declared.symbols.Symbol.{Symbol}
 use Rattle.c_lexer.specs.declared.symbols.Symbol.TheVariants as s
 use Rattle.c_lexer.specs.declared.pieces.Piece.{Piece}
@@ -232,7 +233,7 @@ statement_takes zero loops r = level_takes zero (λ loops. refuse) (λ loops t. 
 statement_takes (suc nests) loops r = level_takes (suc nests) (statement nests) (d.statement nests) (statement_takes nests) loops r
 
 abbrev Region : Reading → List Node → List Node → Reading → Type 0
-Region r found all m = (more : List Node) × (found ++ more ≡ all) × Derived 64 12 more r
+Region r found all m = (more : List Node) × (found ++ more ≡ all) × Derived max_nests max_loops more r
 
 from_yields : (n : ℕ) (found : List Node) (r : Reading) → Yields r (Region r found) (region_from n found r)
 unfolding region_from
@@ -240,10 +241,10 @@ from_yields zero found r = then_yields r _ (Region r found) _ _ (expect_yields s
 from_yields (suc n) found r =
     choose_yields r (Region r found) (same_symbol (symbol r) s.End) _ _
     (λ e. (omega arith, ([], append-nil found, (r, refl, is_same (symbol r) s.End e))))
-    (λ e. then_yields r _ (Region r found) _ _ (takes_yields r _ _ (statement_takes 64 12 r)) (λ t m k.
+    (λ e. then_yields r _ (Region r found) _ _ (takes_yields r _ _ (statement_takes max_nests max_loops r)) (λ t m k.
     yields_so m (Region m (found ++ t ∷ [])) (Region r found) _ (from_yields n (found ++ t ∷ []) m) (λ all z j.
     (t ∷ j.0, sym (append_assoc found (t ∷ []) j.0) ∙ j.1, (j.2.0, (m, k, j.2.1), j.2.2)))))
 
-pub region_yields : (r : Reading) → Yields r (λ all m. Derived 64 12 all r) (region r)
+pub region_yields : (r : Reading) → Yields r (λ all m. Derived max_nests max_loops all r) (region r)
 unfolding region
-region_yields r = yields_so r _ _ _ (from_yields (left r) [] r) (λ all m k. let P : List Node → Type 0 = λ x. Derived 64 12 x r in subst P k.1 k.2)
+region_yields r = yields_so r _ _ _ (from_yields (left r) [] r) (λ all m k. let P : List Node → Type 0 = λ x. Derived max_nests max_loops x r in subst P k.1 k.2)

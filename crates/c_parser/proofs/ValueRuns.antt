@@ -1,5 +1,6 @@
 -- The rules of values look no further than the next token, and stop for the causes that are stated.
 use Rattle.std.proofs.Common.{◌≡◌, ℕ, zero, suc, ◌+◌, ◌≤◌, ◌<◌, Bool, true, false, if◌then◌else◌, List, [], ◌∷◌, ◌++◌, Option, Some, None, refl, ap, ◌∙◌, arith}
+use Rattle.suite_base.specs.Limits.{max_nests}
 use Rattle.c_lexer.specs.declared.symbols.Symbol.{Symbol}
 use Rattle.c_lexer.specs.declared.symbols.Symbol.TheVariants as s
 use Rattle.c_lexer.specs.declared.pieces.Piece.{Piece}
@@ -64,11 +65,11 @@ unary_nest _ x e = absurd (cc)
 
 -- so many tokens were taken, and a nest that is opened beyond the limit has as many openings before it
 abbrev pub Before : Reading → ℕ → ℕ → Type 0
-Before r n i = Sound i r × (64 ≤ n + nests_among i r)
+Before r n i = Sound i r × (max_nests ≤ n + nests_among i r)
 
 -- the same in one nest more
 abbrev pub Within : Reading → ℕ → ℕ → Type 0
-Within r n i = Sound i r × (65 ≤ n + nests_among i r)
+Within r n i = Sound i r × (max_nests < n + nests_among i r)
 
 pub before_on : (r : Reading) (n i k : ℕ) → i ≤ k → Before r n i → Sound k r → Before r n k
 before_on r n i k h d sound = let m = more_nests i k r h in (sound, omega (arith, d.1, m))

@@ -1,5 +1,6 @@
 -- The tokens with which a text begins, and what stands among them.
 use Rattle.std.specs.Prelude.{◌≡◌, ◌⊎◌, ◌≤◌, ℕ, zero, suc, ◌+◌, true, List, Option, Some, None, Ok, Err}
+use Rattle.suite_base.specs.Limits.{max_nests, max_loops}
 use Rattle.suite_base.specs.declared.places.Place.{Place}
 use Rattle.suite_base.specs.declared.refusals.Refusal.{Refusal}
 use Rattle.suite_base.specs.declared.refusals.Refusal.TheVariants.{BadToken, NumberTooLarge, BadSyntax, TooDeep}
@@ -65,9 +66,9 @@ loops_among (suc k) r = loops_among k r + opens_loop (symbol (later k r))
 abbrev pub NoneBegins : ℕ → Reading → ℕ → ℕ → Type 0
 NoneBegins k r nests loops = (x : Reading) (nodes : List Node) → SameTokens (suc k) r x → Derived nests loops nodes x → ⊥
 
--- at the 13th word `for` or later, or behind 64 tokens that open nests
+-- at a word `for` behind `max_loops` others or more, or behind `max_nests` tokens that open nests
 abbrev pub IsDeep : ℕ → Reading → Type 0
-IsDeep k r = ((symbol (later k r) ≡ s.For) × (12 ≤ loops_among k r)) ⊎ (64 ≤ nests_among k r)
+IsDeep k r = ((symbol (later k r) ≡ s.For) × (max_loops ≤ loops_among k r)) ⊎ (max_nests ≤ nests_among k r)
 
 -- no token begins behind what separates
 abbrev pub NoToken : Reading → Type 0
@@ -82,7 +83,7 @@ abbrev pub Causes : Reading → Refusal → ℕ → Type 0
 Causes r (BadToken place) k = NoToken (later k r)
 Causes r (NumberTooLarge place) k = LargeInteger (later k r)
 Causes r (BadSyntax place) k = (nests loops : ℕ) → NoneBegins k r nests loops
-Causes r (TooDeep place) k = IsDeep k r × NoneBegins k r 64 12
+Causes r (TooDeep place) k = IsDeep k r × NoneBegins k r max_nests max_loops
 Causes r _ k = ⊥
 
 abbrev pub place_of : Refusal → Option Place

@@ -1,5 +1,6 @@
 -- The tree of a region, or why it has none.
 use Rattle.std.specs.Prelude.{◌≡◌, ℕ, List, take, Result, Ok, Err}
+use Rattle.suite_base.specs.Limits.{max_nests, max_loops}
 use Rattle.suite_base.specs.declared.refusals.Fail.{Fail}
 use Rattle.suite_base.specs.declared.refusals.Fail.TheVariants as fail
 use Rattle.c_lexer.specs.declared.regions.Span.{Span}
@@ -17,9 +18,9 @@ use Rattle.c_parser.specs.Prefixes.{HasCause}
 abbrev pub reading_at : List ℕ → Span → Reading
 reading_at bytes span = record { text = take span.to bytes; at = span.from }
 
--- the span's tokens are derived to these statements within the depths that are read: 64 nests and 12 loops
+-- the span's tokens are derived to these statements within the depths that are read
 abbrev pub IsRegion : List ℕ → Span → List Node → Type 0
-IsRegion bytes span nodes = Derived 64 12 nodes (reading_at bytes span)
+IsRegion bytes span nodes = Derived max_nests max_loops nodes (reading_at bytes span)
 
 -- the answer is this tree, unless memory is wanting
 abbrev pub Answers : List Node → Result Region Fail → Type 0

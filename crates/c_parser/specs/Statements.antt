@@ -1,6 +1,7 @@
 -- Statements: one rule for each production of the grammar. The numbers are those of the nests and of the loops
 -- that may still be opened.
 use Rattle.std.specs.Prelude.{ℕ, zero, suc, Bool, true, false, if◌then◌else◌, List, [], ◌∷◌, ◌++◌, Option, Some, None}
+use Rattle.suite_base.specs.Limits.{max_nests, max_loops}
 use Rattle.c_lexer.specs.declared.symbols.Symbol.{Symbol}
 use Rattle.c_lexer.specs.declared.symbols.Symbol.TheVariants as s
 use Rattle.c_lexer.specs.declared.pieces.Piece.{Piece}
@@ -218,7 +219,7 @@ region_from zero found = do
   pure found
 region_from (suc n) found = do
   kind ← peek
-  if same_symbol kind s.End then pure found else (do next ← statement 64 12; region_from n (found ++ next ∷ []))
+  if same_symbol kind s.End then pure found else (do next ← statement max_nests max_loops; region_from n (found ++ next ∷ []))
 
 -- all statements of a region
 unfoldable pub region : Parser (List Node)

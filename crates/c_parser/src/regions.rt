@@ -13,15 +13,16 @@ use suite_base::Fail;
 /// The tree of the region at `span`, beside its source. The text has fewer than 2^32 - 1 bytes, the
 /// span lies in it, and `span.first` is the place of byte `span.from`.
 ///
-/// The answer is a tree exactly where the span's tokens are derived to it by the grammar with at most 64
-/// nests and 12 loops open at once, unless memory is wanting. Nests are brackets of any kind, the
-/// branches of an `if`, operands of unary signs, and what follows `?`.
+/// The answer is a tree exactly where the span's tokens are derived to it by the grammar with at most
+/// `MAX_NESTS` nests and `MAX_LOOPS` loops open at once, unless memory is wanting. Nests are brackets of
+/// any kind, the branches of an `if`, operands of unary signs, and what follows `?`.
 ///
 /// A refusal has the place of the first token with which the rules do not go on; before it stand tokens of
 /// the grammar alone. `BadToken`: none begins there. `NumberTooLarge`: an integer above 2^127 - 1.
 /// `BadSyntax`: no text that begins with the tokens up to and with this one has a tree, whatever the
 /// depths; at the region's end this is the region itself. `TooDeep`: no such text has a tree within the
-/// depths, and the token is a `for` behind 12 others, or 64 tokens that open nests stand before it.
+/// depths, and the token is a `for` behind `MAX_LOOPS` others, or `MAX_NESTS` tokens that open nests stand
+/// before it.
 pub fn parse_region<'a>(alloc: Global, bytes: &'a [u8], span: Span) -> Result<Region<'a>, Fail>
     requires small { length bytes.now < 2 ^ 32 - 1 }
     requires order { span.from ≤ span.to }

@@ -10,13 +10,7 @@ use crate::values::{inner_value, target, value};
 use c_lexer::{Piece, Stop, Symbol, Tokens, same_symbol};
 use sqlite_items::{Boxed, Items};
 use std::alloc::Global;
-use suite_base::List;
-
-/// How many nests may be open at once.
-pub const MAX_NESTS: usize = 64;
-
-/// How many loops may be open at once.
-pub const MAX_LOOPS: usize = 12;
+use suite_base::{List, MAX_LOOPS, MAX_NESTS};
 
 // An assignment with its `;`.
 #[tactic(auto, unfolding(crate::specs::Statements::assign))]
