@@ -5,6 +5,7 @@ ghost use Rattle.relation_core.specs.Systems.{columns};
 ghost use Rattle.farkas_cert.specs.Certificates.{Valid};
 ghost use Rattle.elim_core.specs.Peaks.{peak, IsRight};
 ghost use Rattle.elim_core.specs.Reductions.{BeginsWith, Settles};
+ghost use Rattle.suite_base.specs.Limits.{max_stage_rows};
 
 use crate::counts::{row_count, variable_count};
 use crate::decisions::decide_by_elimination;
@@ -29,7 +30,7 @@ pub fn decide_with<R: Row>(
     requires { BeginsWith system.now shared.now }
     ensures right { IfOk result (λ verdict. IsRight system.now verdict) }
     ensures overflow { IfErr result (λ fail. fail ≡ ElimFail.Overflow → 2 ^ 127 ≤ (peak system.now).weight) }
-    ensures rows { IfErr result (λ fail. fail ≡ ElimFail.TooManyRows → 16384 < (peak system.now).rows) }
+    ensures rows { IfErr result (λ fail. fail ≡ ElimFail.TooManyRows → max_stage_rows < (peak system.now).rows) }
 {
     match search_checked(alloc, system) {
         Err(_) => Err(ElimFail::Memory),
@@ -47,7 +48,7 @@ fn decide_from_base<R: Row>(
     requires { BeginsWith system.now shared.now }
     ensures right { IfOk result (λ verdict. IsRight system.now verdict) }
     ensures overflow { IfErr result (λ fail. fail ≡ ElimFail.Overflow → 2 ^ 127 ≤ (peak system.now).weight) }
-    ensures rows { IfErr result (λ fail. fail ≡ ElimFail.TooManyRows → 16384 < (peak system.now).rows) }
+    ensures rows { IfErr result (λ fail. fail ≡ ElimFail.TooManyRows → max_stage_rows < (peak system.now).rows) }
 {
     match go_on(alloc, shared, system) {
         Ok(None) => Ok(Verdict::HasPoint),
@@ -66,7 +67,7 @@ fn accept<R: Row>(
     requires { Valid (columns system.now.shape) system.now.rows certificate }
     ensures right { IfOk result (λ verdict. IsRight system.now verdict) }
     ensures overflow { IfErr result (λ fail. fail ≡ ElimFail.Overflow → 2 ^ 127 ≤ (peak system.now).weight) }
-    ensures rows { IfErr result (λ fail. fail ≡ ElimFail.TooManyRows → 16384 < (peak system.now).rows) }
+    ensures rows { IfErr result (λ fail. fail ≡ ElimFail.TooManyRows → max_stage_rows < (peak system.now).rows) }
 {
     match check(system, &certificate) {
         Ok(_) => Ok(Verdict::Empty(certificate)),

@@ -6,6 +6,7 @@ ghost use Rattle.farkas_cert.specs.Certificates.{Valid};
 ghost use Rattle.elim_core.specs.Elimination.{started, Below};
 ghost use Rattle.elim_core.specs.RowLists.{AllRows, Wide};
 ghost use Rattle.elim_core.specs.Peaks.{column_order, stated, peak, IsRight};
+ghost use Rattle.suite_base.specs.Limits.{max_stage_rows};
 
 use crate::counts::{row_count, variable_count};
 use crate::orders::column_order;
@@ -22,7 +23,7 @@ use std::alloc::Global;
 pub fn decide(alloc: Global, system: &Part) -> Result<Verdict, ElimFail>
     ensures right { IfOk result (λ verdict. IsRight system.now verdict) }
     ensures overflow { IfErr result (λ fail. fail ≡ ElimFail.Overflow → 2 ^ 127 ≤ (peak system.now).weight) }
-    ensures rows { IfErr result (λ fail. fail ≡ ElimFail.TooManyRows → 16384 < (peak system.now).rows) }
+    ensures rows { IfErr result (λ fail. fail ≡ ElimFail.TooManyRows → max_stage_rows < (peak system.now).rows) }
 {
     decide_by::<DenseRow>(alloc, system)
 }
@@ -36,7 +37,7 @@ pub fn decide(alloc: Global, system: &Part) -> Result<Verdict, ElimFail>
 pub fn decide_by<R: Row>(alloc: Global, system: &Part) -> Result<Verdict, ElimFail>
     ensures right { IfOk result (λ verdict. IsRight system.now verdict) }
     ensures overflow { IfErr result (λ fail. fail ≡ ElimFail.Overflow → 2 ^ 127 ≤ (peak system.now).weight) }
-    ensures rows { IfErr result (λ fail. fail ≡ ElimFail.TooManyRows → 16384 < (peak system.now).rows) }
+    ensures rows { IfErr result (λ fail. fail ≡ ElimFail.TooManyRows → max_stage_rows < (peak system.now).rows) }
 {
     match search_checked(alloc, system) {
         Err(_) => Err(ElimFail::Memory),
@@ -49,7 +50,7 @@ pub fn decide_by<R: Row>(alloc: Global, system: &Part) -> Result<Verdict, ElimFa
 pub fn decide_by_elimination<R: Row>(alloc: Global, system: &Part) -> Result<Verdict, ElimFail>
     ensures right { IfOk result (λ verdict. IsRight system.now verdict) }
     ensures overflow { IfErr result (λ fail. fail ≡ ElimFail.Overflow → 2 ^ 127 ≤ (peak system.now).weight) }
-    ensures rows { IfErr result (λ fail. fail ≡ ElimFail.TooManyRows → 16384 < (peak system.now).rows) }
+    ensures rows { IfErr result (λ fail. fail ≡ ElimFail.TooManyRows → max_stage_rows < (peak system.now).rows) }
 {
     match eliminate::<R>(alloc, system) {
         Err(fail) => Err(fail),
@@ -64,7 +65,7 @@ fn confirm(system: &Part, certificate: Certificate) -> Result<Verdict, ElimFail>
     requires found { (stated system.now).refutation ≡ Some certificate }
     ensures right { IfOk result (λ verdict. IsRight system.now verdict) }
     ensures overflow { IfErr result (λ fail. fail ≡ ElimFail.Overflow → 2 ^ 127 ≤ (peak system.now).weight) }
-    ensures rows { IfErr result (λ fail. fail ≡ ElimFail.TooManyRows → 16384 < (peak system.now).rows) }
+    ensures rows { IfErr result (λ fail. fail ≡ ElimFail.TooManyRows → max_stage_rows < (peak system.now).rows) }
 {
     match check(system, &certificate) {
         Err(TooHeavy) => Err(ElimFail::Overflow),
@@ -77,7 +78,7 @@ fn eliminate<R: Row>(alloc: Global, system: &Part) -> Result<Option<Certificate>
     ensures ok { IfOk result (λ found. found ≡ (stated system.now).refutation) }
     ensures wide { AllRows (Wide (columns system.now.shape + 1)) system.now.rows }
     ensures overflow { IfErr result (λ fail. fail ≡ ElimFail.Overflow → 2 ^ 127 ≤ (stated system.now).weight) }
-    ensures rows { IfErr result (λ fail. fail ≡ ElimFail.TooManyRows → 16384 < (stated system.now).count) }
+    ensures rows { IfErr result (λ fail. fail ≡ ElimFail.TooManyRows → max_stage_rows < (stated system.now).count) }
 {
     let n = variable_count(system);
     let count = row_count(system);

@@ -5,6 +5,7 @@ ghost use Rattle.std.specs.Prelude.{◌≡◌, ◌<◌, ◌≤◌, ◌^◌, leng
 ghost use Rattle.relation_core.specs.Systems.{row_at};
 ghost use Rattle.elim_core.specs.Elimination.{first_equality, without_equality, without, without_weight, from_columns, from_equalities, from_rows, Below};
 ghost use Rattle.elim_core.specs.RowLists.{AllRows, Wide};
+ghost use Rattle.suite_base.specs.Limits.{max_stage_rows};
 
 use crate::normalising::normalise;
 use crate::projections::project;
@@ -30,7 +31,7 @@ pub fn from_rows<R: Row>(
     requires wide { AllRows (Wide width) rows.items }
     ensures ok { IfOk result (λ found. found ≡ (from_rows n columns.now most rows.items).refutation) }
     ensures overflow { IfErr result (λ fail. fail ≡ ElimFail.Overflow → 2 ^ 127 ≤ (from_rows n columns.now most rows.items).weight) }
-    ensures rows { IfErr result (λ fail. fail ≡ ElimFail.TooManyRows → 16384 < (from_rows n columns.now most rows.items).count) }
+    ensures rows { IfErr result (λ fail. fail ≡ ElimFail.TooManyRows → max_stage_rows < (from_rows n columns.now most rows.items).count) }
 {
     match contradiction(alloc, n, width, rows.as_slice())? {
         Some(certificate) => return Ok(Some(certificate)),
@@ -54,7 +55,7 @@ fn from_equalities<R: Row>(
     requires wide { AllRows (Wide width) rows.items }
     ensures ok { IfOk result (λ found. found ≡ (from_equalities n columns.now most rows.items).refutation) }
     ensures overflow { IfErr result (λ fail. fail ≡ ElimFail.Overflow → 2 ^ 127 ≤ (from_equalities n columns.now most rows.items).weight) }
-    ensures rows { IfErr result (λ fail. fail ≡ ElimFail.TooManyRows → 16384 < (from_equalities n columns.now most rows.items).count) }
+    ensures rows { IfErr result (λ fail. fail ≡ ElimFail.TooManyRows → max_stage_rows < (from_equalities n columns.now most rows.items).count) }
 {
     let mut rows = rows;
     let mut left = most;
@@ -108,7 +109,7 @@ fn from_columns<R: Row>(
     requires wide { AllRows (Wide width) rows.items }
     ensures ok { IfOk result (λ found. found ≡ (from_columns n columns.now rows.items).refutation) }
     ensures overflow { IfErr result (λ fail. fail ≡ ElimFail.Overflow → 2 ^ 127 ≤ (from_columns n columns.now rows.items).weight) }
-    ensures rows { IfErr result (λ fail. fail ≡ ElimFail.TooManyRows → 16384 < (from_columns n columns.now rows.items).count) }
+    ensures rows { IfErr result (λ fail. fail ≡ ElimFail.TooManyRows → max_stage_rows < (from_columns n columns.now rows.items).count) }
 {
     let mut rows = rows;
     for j in columns {

@@ -4,6 +4,7 @@
 ghost use Rattle.std.specs.Prelude.{◌≡◌, ◌<◌, ◌≤◌, ◌+◌, ◌*◌, ◌^◌, ◌++◌, length, IfOk, IfErr, OnOk, IsTrue, ◌↔◌};
 ghost use Rattle.elim_core.specs.Elimination.{flat_rows, crossing, crossing_weight, against, against_weight, crossed, crossed_weight, projected};
 ghost use Rattle.elim_core.specs.RowLists.{AllRows, Wide, positives, negatives};
+ghost use Rattle.suite_base.specs.Limits.{max_stage_rows};
 
 use crate::signs::{absolute, is_negative, is_positive, is_zero};
 use crate::verdicts::ElimFail;
@@ -11,10 +12,7 @@ use crate::working_rows::WorkingRow;
 use relation_core::RowKind;
 use row_core::Row;
 use std::alloc::Global;
-use suite_base::NoMemory;
-
-// The most rows that a projection may have.
-const MAX_ROWS: usize = 16_384;
+use suite_base::{MAX_STAGE_ROWS, NoMemory};
 
 /// The rows without column `j`, then each crossing of a positive with a negative row, in order.
 #[tactic(auto, using(crate::proofs::Widths::wide_projected))]
@@ -29,7 +27,7 @@ pub fn project<R: Row>(
     ensures ok { IfOk result (λ made. made.items ≡ projected j rows.items) }
     ensures wide { AllRows (Wide width) (projected j rows.items) }
     ensures overflow { IfErr result (λ fail. fail ≡ ElimFail.Overflow → 2 ^ 127 ≤ crossed_weight j rows.items rows.items) }
-    ensures rows { IfErr result (λ fail. fail ≡ ElimFail.TooManyRows → 16384 < length (projected j rows.items)) }
+    ensures rows { IfErr result (λ fail. fail ≡ ElimFail.TooManyRows → max_stage_rows < length (projected j rows.items)) }
 {
     if is_too_many(j, width, rows.as_slice()) {
         return Err(ElimFail::TooManyRows);
@@ -44,7 +42,7 @@ pub fn project<R: Row>(
 fn is_too_many<R: Row>(j: usize, width: usize, rows: &[WorkingRow<R>]) -> bool
     requires place { j < width }
     requires wide { AllRows (Wide width) rows.now }
-    ensures { IsTrue result → 16384 < length (projected j rows.now) }
+    ensures { IsTrue result → max_stage_rows < length (projected j rows.now) }
 {
     let mut rising: usize = 0;
     let mut falling: usize = 0;
@@ -61,11 +59,11 @@ fn is_too_many<R: Row>(j: usize, width: usize, rows: &[WorkingRow<R>]) -> bool
 
 // Whether `flat + rising * falling` is above 16,384.
 fn is_above(flat: usize, rising: usize, falling: usize) -> bool
-    ensures { IsTrue result ↔ (16384 < flat + rising * falling) }
+    ensures { IsTrue result ↔ (max_stage_rows < flat + rising * falling) }
 {
     match rising.checked_mul(falling) {
         None => true,
-        Some(product) => flat > MAX_ROWS || product > MAX_ROWS - flat,
+        Some(product) => flat > MAX_STAGE_ROWS || product > MAX_STAGE_ROWS - flat,
     }
 }
 
