@@ -1,12 +1,12 @@
 -- What the loops over rows and entries have found.
-use Rattle.std.proofs.Common.{◌≡◌, refl, ap, sym, ◌∙◌, inl, inr, ℕ, zero, suc, ◌+◌, ◌-◌, ◌*◌, ◌<◌, ◌≤◌, List, [], ◌∷◌, ◌++◌, length, take, drop, get_or, arith, append_assoc}
-use Rattle.std.specs.Prelude.{true, false, cond, Some, int_le, int_lt, ℤ, pos, ◌-ℤ◌}
+use Rattle.std.proofs.Common.{◌≡◌, refl, ap, sym, ◌∙◌, inl, inr, ℕ, zero, suc, ◌+◌, ◌-◌, ◌*◌, ◌<◌, ◌≤◌, List, [], ◌∷◌, ◌++◌, length, take, drop, get_or, arith}
+use Rattle.std.specs.Prelude.{true, false, Some, int_lt, ℤ, pos, ◌-ℤ◌}
 use Rattle.std.proofs.lemmas.Int.{ints}
-use Rattle.std.proofs.lemmas.List.{take-append-drop, length-append}
+use Rattle.std.proofs.lemmas.List.{length-append}
 use Rattle.row_core.specs.Rows.{entry}
 use Rattle.relation_core.specs.declared.part_rows.PartRow.{PartRow}
 use Rattle.relation_core.specs.Systems.{row_at}
-use Rattle.elim_core.specs.Elimination.{is_zero, is_equal, same_cells, last_variable, alike, admitted, first_equality, without_equality, flat_rows, against, crossed, projected}
+use Rattle.elim_core.specs.Elimination.{is_zero, is_equal, same_cells, last_variable, first_equality, without_equality, flat_rows, against, crossed, projected}
 use Rattle.elim_core.specs.RowLists.{positives, negatives}
 use Rattle.elim_core.proofs.Tests.{by_bool, zero_is, zero_test, nonzero_is, same_cells_is, both_of_cond, is_less, not_less}
 
@@ -55,18 +55,6 @@ at_is (r ∷ rows) (suc k) d l = at_is rows k d (omega arith)
 -- a row that stands at a place is the row there
 pub row_is : (rows : List PartRow) (k : ℕ) (r : PartRow) → k < length rows → r ≡ get_or rows k r → r ≡ row_at rows k
 row_is rows k r l e = e ∙ at_is rows k r l
-
-pub found_alike : (n : ℕ) (kept : List PartRow) (w : PartRow) (k : ℕ) → k < length kept → alike n (row_at kept k) w ≡ true
-    → take k kept ++ admitted n (drop k kept) w ≡ admitted n kept w
-    → admitted n kept w ≡ cond (int_le (entry (row_at kept k).entries n) (entry w.entries n)) kept (take k kept ++ drop (suc k) kept ++ (w ∷ []))
-found_alike n kept w k l a e =
-    let d = row_first kept k l in
-    elim (by_bool (int_le (entry (row_at kept k).entries n) (entry w.entries n))) [
-      | inl t ↦ let f : take k kept ++ (row_at kept k ∷ drop (suc k) kept) ≡ admitted n kept w = rw (d, a, t) at e in
-          rw t (sym f ∙ (ap (λ s. take k kept ++ s) (sym d) ∙ take-append-drop k kept))
-      | inr t ↦ let f : take k kept ++ (drop (suc k) kept ++ (w ∷ [])) ≡ admitted n kept w = rw (d, a, t) at e in
-          rw t (sym f ∙ sym (append_assoc (take k kept) (drop (suc k) kept) (w ∷ [])))
-    ]
 
 -- what a found equality is
 pub record FoundEquality (rows : List PartRow) (k : ℕ) : Type 0 where

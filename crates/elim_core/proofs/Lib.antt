@@ -17,5 +17,5 @@ pub mod Leads
 pub mod ColumnOrder
 pub mod Reducing
 pub mod Joining
-pub mod KeyLaws
+pub mod Marking
 pub mod Beginnings

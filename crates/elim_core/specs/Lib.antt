@@ -2,6 +2,7 @@ pub mod Gcd
 pub mod Elimination
 pub mod RowLists
 pub mod Keys
+pub mod Pruning
 pub mod Multipliers
 pub mod Reductions
 pub mod Causes

@@ -1,6 +1,6 @@
 use Rattle.std.proofs.Common.{◌≡◌, sym, ◌∙◌, true, false, arith}
 use Rattle.elim_core.proofs.CodeSteps.{same_cells_test, not_same_cells}
-use Rattle.elim_core.proofs.normalising.have_same_variables.Goals as goal
+use Rattle.elim_core.proofs.pruning.have_same_variables.Goals as goal
 
 pub returns-then-not-are_equal : goal.returns-then-not-are_equal
 returns-then-not-are_equal g c = sym (not_same_cells _ _ _ c.loop-k.k c.loop-k-test.true
