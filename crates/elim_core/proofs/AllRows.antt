@@ -1,10 +1,9 @@
 -- What each step of the elimination keeps of every row.
-use Rattle.std.proofs.Common.{◌≡◌, subst, inl, inr, ℕ, zero, suc, ◌<◌, List, [], ◌∷◌, ◌++◌, length, arith}
+use Rattle.std.proofs.Common.{◌≡◌, subst, inl, inr, ℕ, List, [], ◌∷◌, ◌++◌}
 use Rattle.std.specs.Prelude.{true, false, int_lt, int_le, ℤ, pos, Some, None}
 use Rattle.row_core.specs.Rows.{entry}
 use Rattle.relation_core.specs.declared.part_rows.PartRow.{PartRow}
 use Rattle.elim_core.specs.Elimination.{is_zero, is_constant, with_variables, alike, admitted, pruned_onto, normalised, flat_rows, against, crossed, crossing, projected, substituted, substituted_row, first_equality, without_equality, is_equal, refutation_of, is_contradiction, certificate_of}
-use Rattle.relation_core.specs.Systems.{row_at}
 use Rattle.elim_core.specs.RowLists.{AllRows}
 use Rattle.elim_core.proofs.Tests.{by_bool}
 
@@ -117,8 +116,3 @@ no_refutation n (o ∷ ws) s = elim (by_bool (is_contradiction n o)) [
   | inl e ↦ let f : Some (certificate_of n o) ≡ None = rw e at s in cc
   | inr e ↦ let f : refutation_of n ws ≡ None = rw e at s in (e, no_refutation n ws f)
 ]
-
-pub at_row : (P : PartRow → Type 0) (ws : List PartRow) (k : ℕ) → k < length ws → AllRows P ws → P (row_at ws k)
-at_row P [] k l p = absurd (omega arith)
-at_row P (w ∷ ws) zero l p = p.0
-at_row P (w ∷ ws) (suc k) l p = at_row P ws k (omega arith) p.1

@@ -1,5 +1,5 @@
 -- What the loops over rows and entries have found.
-use Rattle.std.proofs.Common.{◌≡◌, refl, ap, sym, ◌∙◌, inl, inr, ℕ, zero, suc, ◌+◌, ◌-◌, ◌*◌, ◌<◌, ◌≤◌, List, [], ◌∷◌, ◌++◌, length, take, drop, get_or, arith}
+use Rattle.std.proofs.Common.{◌≡◌, refl, ap, sym, ◌∙◌, inl, inr, ℕ, zero, suc, ◌+◌, ◌-◌, ◌*◌, ◌<◌, ◌≤◌, List, [], ◌∷◌, ◌++◌, length, take, drop, arith}
 use Rattle.std.specs.Prelude.{true, false, Some, int_lt, ℤ, pos, ◌-ℤ◌}
 use Rattle.std.proofs.lemmas.Int.{ints}
 use Rattle.std.proofs.lemmas.List.{length-append}
@@ -46,15 +46,6 @@ pub row_first : (rows : List PartRow) (k : ℕ) → k < length rows → drop k r
 row_first [] k l = absurd (omega arith)
 row_first (r ∷ rows) zero l = refl
 row_first (r ∷ rows) (suc k) l = row_first rows k (omega arith)
-
-pub at_is : (rows : List PartRow) (k : ℕ) (d : PartRow) → k < length rows → get_or rows k d ≡ row_at rows k
-at_is [] k d l = absurd (omega arith)
-at_is (r ∷ rows) zero d l = refl
-at_is (r ∷ rows) (suc k) d l = at_is rows k d (omega arith)
-
--- a row that stands at a place is the row there
-pub row_is : (rows : List PartRow) (k : ℕ) (r : PartRow) → k < length rows → r ≡ get_or rows k r → r ≡ row_at rows k
-row_is rows k r l e = e ∙ at_is rows k r l
 
 -- what a found equality is
 pub record FoundEquality (rows : List PartRow) (k : ℕ) : Type 0 where

@@ -8,6 +8,7 @@ use Rattle.relation_core.specs.declared.part_rows.PartRow.{PartRow}
 use Rattle.relation_core.specs.Systems.{row_at}
 use Rattle.elim_core.specs.Elimination.{is_constant, is_equal, alike, admitted, with_variables, pruned_onto, normalised}
 use Rattle.elim_core.specs.Keys.{key_onto, key}
+use Rattle.elim_core.specs.RowLists.{AllRows}
 use Rattle.elim_core.specs.Pruning.{marked, is_partner, IsAlone, IsFirstPartner, LeadsTo, IsIndexed, Puts, Follows, AddsMark}
 use Rattle.elim_core.specs.declared.marks.Place.{Place}
 use Rattle.elim_core.specs.declared.marks.Place.TheVariants.{Only}
@@ -107,6 +108,12 @@ partner_only n rows marks at w own k x o e f = record {
     | inr m ↦ m
   ];
 }
+
+pub all_marked : (P : PartRow → Type 0) (ws : List PartRow) (marks : List Bool) → AllRows P ws → AllRows P (marked ws marks)
+all_marked P [] marks a = tt
+all_marked P (w ∷ ws) [] a = tt
+all_marked P (w ∷ ws) (true ∷ marks) a = (a.0, all_marked P ws marks a.1)
+all_marked P (w ∷ ws) (false ∷ marks) a = all_marked P ws marks a.1
 
 got_more : (marks : List Bool) (b : Bool) (k j : ℕ) → length marks ≡ k → get_or (marks ++ (b ∷ [])) j false ≡ true → ((j ≡ k) × (b ≡ true)) ⊎ (get_or marks j false ≡ true)
 got_more [] b zero zero e g = inl (refl, g)

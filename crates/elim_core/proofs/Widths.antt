@@ -5,11 +5,11 @@ use Rattle.std.proofs.lemmas.List.{length-append}
 use Rattle.row_core.specs.Rows.{entry, combined}
 use Rattle.relation_core.specs.declared.part_rows.PartRow.{PartRow}
 use Rattle.elim_core.specs.RowLists.{AllRows, Wide}
-use Rattle.elim_core.specs.Elimination.{is_zero, crossing, projected, normalised, turned, substituted_row, without_equality, last_variable, without, started, started_from, unit}
+use Rattle.elim_core.specs.Elimination.{is_zero, crossing, projected, normalised, turned, substituted_row, substituted, started, started_from, unit}
 use Rattle.elim_core.proofs.Tests.{by_bool}
 use Rattle.elim_core.proofs.Quotients.{length_divided}
 use Rattle.elim_core.proofs.Algebra.{length_combined}
-use Rattle.elim_core.proofs.AllRows.{all_projected, all_normalised, all_substituted, all_without_equality}
+use Rattle.elim_core.proofs.AllRows.{all_projected, all_normalised, all_substituted}
 use Rattle.elim_core.proofs.Started.{length_unit}
 
 crossing_wide : (width j : ℕ) (p q : PartRow) → Wide width p → Wide width q → Wide width (crossing j p q)
@@ -30,10 +30,8 @@ substituted_wide width j e w a b = elim (by_bool (is_zero (entry w.entries j))) 
       ∙ (length_combined (pos (unsigned_abs (entry e.entries j))) w.entries (turned (entry e.entries j) (entry w.entries j)) e.entries (b ∙ sym a) ∙ b))
 ]
 
-pub wide_without : (width n : ℕ) (e : PartRow) (ws : List PartRow) → Wide width e → AllRows (Wide width) ws → AllRows (Wide width) (without n e ws)
-wide_without width n e ws a b =
-    all_substituted (Wide width) (Wide width) (last_variable n e.entries) e (without_equality ws) (λ w c. substituted_wide width (last_variable n e.entries) e w a c)
-    (all_without_equality (Wide width) ws b)
+pub wide_substituted : (width j : ℕ) (e : PartRow) (ws : List PartRow) → Wide width e → AllRows (Wide width) ws → AllRows (Wide width) (substituted j e ws)
+wide_substituted width j e ws a b = all_substituted (Wide width) (Wide width) j e ws (λ w c. substituted_wide width j e w a c) b
 
 started_wide : (m i n : ℕ) (rows : List PartRow) → i + length rows ≡ m → AllRows (Wide n) rows → AllRows (Wide (n + m)) (started_from m i rows)
 started_wide m i n [] e a = tt

@@ -5,5 +5,6 @@ pub mod Keys
 pub mod Pruning
 pub mod Multipliers
 pub mod Reductions
+pub mod Tableaux
 pub mod Causes
 pub mod Peaks

@@ -7,7 +7,6 @@ ghost use Rattle.elim_core.specs.Peaks.{peak, IsRight};
 ghost use Rattle.elim_core.specs.Reductions.{BeginsWith, Settles};
 ghost use Rattle.suite_base.specs.Limits.{max_stage_rows};
 
-use crate::counts::{row_count, variable_count};
 use crate::decisions::decide_by_elimination;
 use crate::orders::column_order;
 use crate::phases::from_rows;
@@ -84,10 +83,8 @@ fn go_on<R: Row>(
     requires { BeginsWith system.now shared.now }
     ensures { IfOk result (λ found. Settles system.now found) }
 {
-    let n = variable_count(system);
-    let width = n + 1 + row_count(system);
     let columns = column_order(alloc, system)?;
-    let rows = shared.join(alloc, system)?;
-    let most = rows.len();
-    from_rows(alloc, n, width, columns.as_slice(), most, rows)
+    let tableau = shared.join(alloc, system)?;
+    let most = tableau.row_count();
+    from_rows(alloc, columns.as_slice(), most, tableau)
 }

@@ -2,9 +2,8 @@
 
 ghost use Rattle.std.specs.Prelude.{◌≡◌, ◌<◌, ◌≤◌, ◌+◌, ◌^◌, length};
 ghost use Rattle.relation_core.specs.Systems.{columns};
-ghost use Rattle.elim_core.specs.Elimination.{started, Below};
+ghost use Rattle.elim_core.specs.Elimination.{started};
 ghost use Rattle.elim_core.specs.RowLists.{AllRows, Wide};
-ghost use Rattle.elim_core.specs.Peaks.{column_order};
 
 use relation_core::Part;
 
@@ -12,7 +11,6 @@ use relation_core::Part;
 pub fn variable_count(system: &Part) -> usize
     ensures value { result ≡ columns system.now.shape }
     ensures range { result ≤ 262144 }
-    ensures order { Below (columns system.now.shape) (column_order system.now.shape) }
 {
     let _limits = system.shape();
     system.width() - 1

@@ -3,12 +3,11 @@
 ghost use Rattle.std.specs.Prelude.{◌≡◌, ◌<◌, ◌≤◌, ◌+◌, ◌^◌, length, Some, IfOk, IfErr};
 ghost use Rattle.relation_core.specs.Systems.{columns};
 ghost use Rattle.farkas_cert.specs.Certificates.{Valid};
-ghost use Rattle.elim_core.specs.Elimination.{started, Below};
 ghost use Rattle.elim_core.specs.RowLists.{AllRows, Wide};
 ghost use Rattle.elim_core.specs.Peaks.{column_order, stated, peak, IsRight};
 ghost use Rattle.suite_base.specs.Limits.{max_stage_rows};
 
-use crate::counts::{row_count, variable_count};
+use crate::counts::row_count;
 use crate::orders::column_order;
 use crate::phases::from_rows;
 use crate::searches::search_checked;
@@ -80,10 +79,8 @@ fn eliminate<R: Row>(alloc: Global, system: &Part) -> Result<Option<Certificate>
     ensures overflow { IfErr result (λ fail. fail ≡ ElimFail.Overflow → 2 ^ 127 ≤ (stated system.now).weight) }
     ensures rows { IfErr result (λ fail. fail ≡ ElimFail.TooManyRows → max_stage_rows < (stated system.now).count) }
 {
-    let n = variable_count(system);
     let count = row_count(system);
-    let width = n + 1 + count;
     let columns = column_order(alloc, system)?;
-    let rows = start::<R>(alloc, system)?;
-    from_rows(alloc, n, width, columns.as_slice(), count, rows)
+    let tableau = start::<R>(alloc, system)?;
+    from_rows(alloc, columns.as_slice(), count, tableau)
 }

@@ -30,6 +30,7 @@ mod searches;
 mod signs;
 mod starts;
 mod substitutions;
+mod tableaux;
 mod verdicts;
 mod working_rows;
 

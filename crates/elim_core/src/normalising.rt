@@ -1,64 +1,43 @@
-//! Whether some row is a contradiction, and else the rows that stay: those with variables, pruned.
+//! The rows that stay after a step: those that have variables, pruned.
 
-ghost use Rattle.std.specs.Prelude.{◌≡◌, ◌<◌, length, Bool, IfOk, MatchOption, None};
-ghost use Rattle.relation_core.specs.Systems.{row_at};
-ghost use Rattle.elim_core.specs.Elimination.{refutation_of, certificate_of, normalised};
+ghost use Rattle.std.specs.Prelude.{◌≡◌, length, IfOk};
+ghost use Rattle.elim_core.specs.Elimination.{normalised};
 ghost use Rattle.elim_core.specs.Pruning.{marked};
 ghost use Rattle.elim_core.specs.RowLists.{AllRows, Wide};
+ghost use Rattle.elim_core.specs.Tableaux.{with_rows};
 
 use crate::pruning::mark;
-use crate::working_rows::{WorkingRow, is_contradiction};
+use crate::tableaux::Tableau;
 use row_core::Row;
 use std::alloc::Global;
 use suite_base::NoMemory;
 
-/// The place of the first contradiction among rows of `width` entries and `n` variables.
-pub fn find_contradiction<R: Row>(n: usize, width: usize, rows: &[WorkingRow<R>]) -> Option<usize>
-    requires fits { n < width }
-    requires wide { AllRows (Wide width) rows.now }
-    ensures { MatchOption result (refutation_of n rows.now ≡ None) (λ k. (k < length rows.now) × (refutation_of n rows.now ≡ Some (certificate_of n (row_at rows.now k)))) }
+/// The rows that have variables, pruned.
+pub fn normalise<R: Row>(alloc: Global, tableau: Tableau<R>) -> Result<Tableau<R>, NoMemory>
+    ensures { IfOk result (λ kept. kept ≡ with_rows tableau (normalised tableau.variables tableau.rows)) }
 {
-    for k in 0..rows.len() {
-        if is_contradiction(&rows[k], n) {
-            return Some(k);
-        }
-    }
-    None
-}
-
-/// Of rows of `width` entries and `n` variables, those that have variables, pruned.
-#[tactic(auto, using(crate::proofs::Widths::wide_normalised))]
-pub fn normalise<R: Row>(
-    alloc: Global,
-    n: usize,
-    width: usize,
-    rows: Vec<WorkingRow<R>>,
-) -> Result<Vec<WorkingRow<R>>, NoMemory>
-    requires fits { n < width }
-    requires wide { AllRows (Wide width) rows.items }
-    ensures rows { IfOk result (λ kept. kept.items ≡ normalised n rows.items) }
-    ensures wide { AllRows (Wide width) (normalised n rows.items) }
-{
-    let stays = mark(alloc, n, width, rows.as_slice())?;
-    keep_marked(alloc, rows, stays.as_slice())
+    let stays = mark(alloc, &tableau)?;
+    keep_marked(alloc, tableau, stays.as_slice())
 }
 
 // The rows that are marked to stay.
 fn keep_marked<R: Row>(
     alloc: Global,
-    rows: Vec<WorkingRow<R>>,
+    tableau: Tableau<R>,
     stays: &[bool],
-) -> Result<Vec<WorkingRow<R>>, NoMemory>
-    requires { length stays.now ≡ length rows.items }
-    ensures { IfOk result (λ kept. kept.items ≡ marked rows.items stays.now) }
+) -> Result<Tableau<R>, NoMemory>
+    requires { length stays.now ≡ length tableau.rows }
+    ensures { IfOk result (λ kept. kept ≡ with_rows tableau (marked tableau.rows stays.now)) }
 {
-    let mut kept = Vec::with_capacity(alloc, rows.len())?;
+    let n = tableau.variables();
+    let width = tableau.width();
+    let mut kept = Vec::with_capacity(alloc, tableau.row_count())?;
     let mut k = 0;
-    for w in rows {
+    for w in tableau.into_rows() {
         if stays[k] {
             kept.push(w)?;
         }
         k += 1;
     }
-    Ok(kept)
+    Ok(Tableau::new(n, width, kept))
 }

@@ -1,6 +1,8 @@
 //! The order in which columns are projected.
 
 ghost use Rattle.std.specs.Prelude.{◌≡◌, ◌+◌, ◌≤◌, ◌^◌, ◌++◌, IfOk, OnOk};
+ghost use Rattle.relation_core.specs.Systems.{columns};
+ghost use Rattle.elim_core.specs.Elimination.{Below};
 ghost use Rattle.elim_core.specs.Peaks.{down, column_order};
 
 use relation_core::Part;
@@ -8,8 +10,10 @@ use std::alloc::Global;
 use suite_base::NoMemory;
 
 /// The columns of locals, inputs, outputs and parameters, each from its last.
+#[tactic(auto, using(crate::proofs::ColumnOrder::order_below))]
 pub fn column_order(alloc: Global, system: &Part) -> Result<Vec<usize>, NoMemory>
-    ensures { IfOk result (λ order. order.items ≡ column_order system.now.shape) }
+    ensures order { IfOk result (λ order. order.items ≡ column_order system.now.shape) }
+    ensures below { Below (columns system.now.shape) (column_order system.now.shape) }
 {
     let shape = system.shape();
     let mut order = Vec::new(alloc);

@@ -1,18 +1,19 @@
 //! The two phases of the elimination: the equalities are substituted in turn, then the columns are
 //! projected in turn. After each step a contradiction ends it, and else the rows are normalised.
 
-ghost use Rattle.std.specs.Prelude.{◌≡◌, ◌<◌, ◌≤◌, ◌^◌, length, remove, Some, None, IfOk, IfErr};
+ghost use Rattle.std.specs.Prelude.{◌≡◌, ◌<◌, ◌≤◌, ◌^◌, length, remove, IfOk, IfErr};
 ghost use Rattle.relation_core.specs.Systems.{row_at};
-ghost use Rattle.elim_core.specs.Elimination.{first_equality, without_equality, without, without_weight, from_columns, from_equalities, from_rows, Below};
-ghost use Rattle.elim_core.specs.RowLists.{AllRows, Wide};
+ghost use Rattle.elim_core.specs.Elimination.{without_equality, without, without_weight, from_columns, from_equalities, from_rows, Below};
+ghost use Rattle.elim_core.specs.Tableaux.{with_rows};
 ghost use Rattle.suite_base.specs.Limits.{max_stage_rows};
 
 use crate::normalising::normalise;
 use crate::projections::project;
-use crate::refutations::contradiction;
+use crate::refutations::refutation;
 use crate::substitutions::{find_equality, substitute};
+use crate::tableaux::Tableau;
 use crate::verdicts::ElimFail;
-use crate::working_rows::{WorkingRow, last_variable};
+use crate::working_rows::last_variable;
 use farkas_cert::Certificate;
 use row_core::Row;
 use std::alloc::Global;
@@ -20,104 +21,95 @@ use std::alloc::Global;
 /// Normalises, substitutes the equalities, at most `most` of them, and then projects `columns`.
 pub fn from_rows<R: Row>(
     alloc: Global,
-    n: usize,
-    width: usize,
     columns: &[usize],
     most: usize,
-    rows: Vec<WorkingRow<R>>,
+    tableau: Tableau<R>,
 ) -> Result<Option<Certificate>, ElimFail>
-    requires fits { n < width }
-    requires columns { Below n columns.now }
-    requires wide { AllRows (Wide width) rows.items }
-    ensures ok { IfOk result (λ found. found ≡ (from_rows n columns.now most rows.items).refutation) }
-    ensures overflow { IfErr result (λ fail. fail ≡ ElimFail.Overflow → 2 ^ 127 ≤ (from_rows n columns.now most rows.items).weight) }
-    ensures rows { IfErr result (λ fail. fail ≡ ElimFail.TooManyRows → max_stage_rows < (from_rows n columns.now most rows.items).count) }
+    requires { Below tableau.variables columns.now }
+    ensures ok { IfOk result (λ found. found ≡ (from_rows tableau.variables columns.now most tableau.rows).refutation) }
+    ensures overflow { IfErr result (λ fail. fail ≡ ElimFail.Overflow
+        → 2 ^ 127 ≤ (from_rows tableau.variables columns.now most tableau.rows).weight) }
+    ensures rows { IfErr result (λ fail. fail ≡ ElimFail.TooManyRows
+        → max_stage_rows < (from_rows tableau.variables columns.now most tableau.rows).count) }
 {
-    match contradiction(alloc, n, width, rows.as_slice())? {
+    match refutation(alloc, &tableau)? {
         Some(certificate) => return Ok(Some(certificate)),
         None => {}
     }
-    let normalised = normalise(alloc, n, width, rows)?;
-    from_equalities(alloc, n, width, columns, most, normalised)
+    let normalised = normalise(alloc, tableau)?;
+    from_equalities(alloc, columns, most, normalised)
 }
 
 // Substitutes the equalities, at most `most` of them, and then projects `columns`.
 fn from_equalities<R: Row>(
     alloc: Global,
-    n: usize,
-    width: usize,
     columns: &[usize],
     most: usize,
-    rows: Vec<WorkingRow<R>>,
+    tableau: Tableau<R>,
 ) -> Result<Option<Certificate>, ElimFail>
-    requires fits { n < width }
-    requires columns { Below n columns.now }
-    requires wide { AllRows (Wide width) rows.items }
-    ensures ok { IfOk result (λ found. found ≡ (from_equalities n columns.now most rows.items).refutation) }
-    ensures overflow { IfErr result (λ fail. fail ≡ ElimFail.Overflow → 2 ^ 127 ≤ (from_equalities n columns.now most rows.items).weight) }
-    ensures rows { IfErr result (λ fail. fail ≡ ElimFail.TooManyRows → max_stage_rows < (from_equalities n columns.now most rows.items).count) }
+    requires { Below tableau.variables columns.now }
+    ensures ok { IfOk result (λ found. found ≡ (from_equalities tableau.variables columns.now most tableau.rows).refutation) }
+    ensures overflow { IfErr result (λ fail. fail ≡ ElimFail.Overflow
+        → 2 ^ 127 ≤ (from_equalities tableau.variables columns.now most tableau.rows).weight) }
+    ensures rows { IfErr result (λ fail. fail ≡ ElimFail.TooManyRows
+        → max_stage_rows < (from_equalities tableau.variables columns.now most tableau.rows).count) }
 {
-    let mut rows = rows;
+    let mut tableau = tableau;
     let mut left = most;
     while left > 0 {
-        let Some(k) = find_equality(rows.as_slice()) else {
-            return from_columns(alloc, n, width, columns, rows);
+        let Some(k) = find_equality(&tableau) else {
+            return from_columns(alloc, columns, tableau);
         };
         left -= 1;
-        let made = substitute_at(alloc, n, width, k, rows)?;
-        match contradiction(alloc, n, width, made.as_slice())? {
+        let made = substitute_at(alloc, k, tableau)?;
+        match refutation(alloc, &made)? {
             Some(certificate) => return Ok(Some(certificate)),
             None => {}
         }
-        rows = normalise(alloc, n, width, made)?;
+        tableau = normalise(alloc, made)?;
     }
-    from_columns(alloc, n, width, columns, rows)
+    from_columns(alloc, columns, tableau)
 }
 
 // The rows after the first equality, which stands at `k`, is substituted.
 fn substitute_at<R: Row>(
     alloc: Global,
-    n: usize,
-    width: usize,
     k: usize,
-    rows: Vec<WorkingRow<R>>,
-) -> Result<Vec<WorkingRow<R>>, ElimFail>
-    requires fits { n < width }
-    requires place { k < length rows.items }
-    requires rest { without_equality rows.items ≡ remove rows.items k }
-    requires wide { AllRows (Wide width) rows.items }
-    ensures ok { IfOk result (λ made. made.items ≡ without n (row_at rows.items k) rows.items) }
-    ensures wide { AllRows (Wide width) (without n (row_at rows.items k) rows.items) }
-    ensures overflow { IfErr result (λ fail. fail ≡ ElimFail.Overflow → 2 ^ 127 ≤ without_weight n (row_at rows.items k) rows.items) }
+    tableau: Tableau<R>,
+) -> Result<Tableau<R>, ElimFail>
+    requires place { k < length tableau.rows }
+    requires rest { without_equality tableau.rows ≡ remove tableau.rows k }
+    ensures ok { IfOk result (λ made. made ≡ with_rows tableau (without tableau.variables (row_at tableau.rows k) tableau.rows)) }
+    ensures overflow { IfErr result (λ fail. fail ≡ ElimFail.Overflow
+        → 2 ^ 127 ≤ without_weight tableau.variables (row_at tableau.rows k) tableau.rows) }
     ensures rows { IfErr result (λ fail. ¬ (fail ≡ ElimFail.TooManyRows)) }
 {
-    let mut others = rows;
-    let e = others.remove(k);
-    substitute(alloc, last_variable(&e, n), width, &e, others)
+    let mut others = tableau;
+    let e = others.take(k);
+    let j = last_variable(&e, others.variables());
+    substitute(alloc, j, &e, others)
 }
 
 // Projects `columns` in turn.
 fn from_columns<R: Row>(
     alloc: Global,
-    n: usize,
-    width: usize,
     columns: &[usize],
-    rows: Vec<WorkingRow<R>>,
+    tableau: Tableau<R>,
 ) -> Result<Option<Certificate>, ElimFail>
-    requires fits { n < width }
-    requires columns { Below n columns.now }
-    requires wide { AllRows (Wide width) rows.items }
-    ensures ok { IfOk result (λ found. found ≡ (from_columns n columns.now rows.items).refutation) }
-    ensures overflow { IfErr result (λ fail. fail ≡ ElimFail.Overflow → 2 ^ 127 ≤ (from_columns n columns.now rows.items).weight) }
-    ensures rows { IfErr result (λ fail. fail ≡ ElimFail.TooManyRows → max_stage_rows < (from_columns n columns.now rows.items).count) }
+    requires { Below tableau.variables columns.now }
+    ensures ok { IfOk result (λ found. found ≡ (from_columns tableau.variables columns.now tableau.rows).refutation) }
+    ensures overflow { IfErr result (λ fail. fail ≡ ElimFail.Overflow
+        → 2 ^ 127 ≤ (from_columns tableau.variables columns.now tableau.rows).weight) }
+    ensures rows { IfErr result (λ fail. fail ≡ ElimFail.TooManyRows
+        → max_stage_rows < (from_columns tableau.variables columns.now tableau.rows).count) }
 {
-    let mut rows = rows;
+    let mut tableau = tableau;
     for j in columns {
-        let made = project(alloc, *j, width, rows)?;
-        if let Some(certificate) = contradiction(alloc, n, width, made.as_slice())? {
+        let made = project(alloc, *j, tableau)?;
+        if let Some(certificate) = refutation(alloc, &made)? {
             return Ok(Some(certificate));
         }
-        rows = normalise(alloc, n, width, made)?;
+        tableau = normalise(alloc, made)?;
     }
     Ok(None)
 }

@@ -6,12 +6,12 @@ ghost use Rattle.std.specs.BTreeMap.{get};
 ghost use Rattle.std.specs.Ordering.{nat_cmp};
 ghost use Rattle.relation_core.specs.Systems.{row_at};
 ghost use Rattle.elim_core.specs.Elimination.{is_constant, is_equal, same_cells, alike, normalised};
-ghost use Rattle.elim_core.specs.RowLists.{AllRows, Wide};
 ghost use Rattle.elim_core.specs.Keys.{key};
 ghost use Rattle.elim_core.specs.Pruning.{marked, is_partner, IsAlone, IsFirstPartner, IsIndexed, Puts, Follows, AddsMark};
 
 use crate::keys::key;
 use crate::marks::{Marks, Place};
+use crate::tableaux::Tableau;
 use crate::working_rows::{WorkingRow, is_constant};
 use row_core::{Coeff, Row};
 use std::alloc::Global;
@@ -19,83 +19,68 @@ use std::collections::BTreeMap;
 use suite_base::NoMemory;
 
 /// Which of the rows stay: those that have variables, pruned.
-pub fn mark<R: Row>(
-    alloc: Global,
-    n: usize,
-    width: usize,
-    rows: &[WorkingRow<R>],
-) -> Result<Vec<bool>, NoMemory>
-    requires fits { n < width }
-    requires wide { AllRows (Wide width) rows.now }
-    ensures count { IfOk result (λ stays. length stays.items ≡ length rows.now) }
-    ensures rows { IfOk result (λ stays. marked rows.now stays.items ≡ normalised n rows.now) }
+pub fn mark<R: Row>(alloc: Global, tableau: &Tableau<R>) -> Result<Vec<bool>, NoMemory>
+    ensures count { IfOk result (λ stays. length stays.items ≡ length tableau.now.rows) }
+    ensures rows { IfOk result (λ stays. marked tableau.now.rows stays.items ≡ normalised tableau.now.variables tableau.now.rows) }
 {
     let mut marks = Marks {
-        stays: Vec::with_capacity(alloc, rows.len())?,
+        stays: Vec::with_capacity(alloc, tableau.row_count())?,
         places: BTreeMap::new(alloc),
     };
-    for k in 0..rows.len() {
-        mark_row(n, width, rows, k, &mut marks)?;
+    for k in 0..tableau.row_count() {
+        mark_row(tableau, k, &mut marks)?;
     }
     Ok(marks.stays)
 }
 
 // Marks the row at `k`, before which all are marked.
-fn mark_row<R: Row>(
-    n: usize,
-    width: usize,
-    rows: &[WorkingRow<R>],
-    k: usize,
-    marks: &mut Marks,
-) -> Result<(), NoMemory>
-    requires fits { n < width }
-    requires wide { AllRows (Wide width) rows.now }
-    requires place { k < length rows.now }
+fn mark_row<R: Row>(tableau: &Tableau<R>, k: usize, marks: &mut Marks) -> Result<(), NoMemory>
+    requires place { k < length tableau.now.rows }
     requires count { length marks.old.stays.items ≡ k }
-    requires indexed { IsIndexed n rows.now marks.old.stays.items (get nat_cmp marks.old.places) }
-    ensures { OnOk result (AddsMark n rows.now k marks.old.stays.items marks.new.stays.items (get nat_cmp marks.new.places)) }
+    requires indexed { IsIndexed tableau.now.variables tableau.now.rows marks.old.stays.items (get nat_cmp marks.old.places) }
+    ensures { OnOk result (AddsMark tableau.now.variables tableau.now.rows k
+        marks.old.stays.items marks.new.stays.items (get nat_cmp marks.new.places)) }
 {
-    if is_constant(&rows[k], n) {
+    let w = tableau.row(k);
+    if is_constant(w, tableau.variables()) {
         marks.stays.push(false)?;
         return Ok(());
     }
-    if rows[k].is_equality() {
+    if w.is_equality() {
         marks.stays.push(true)?;
         return Ok(());
     }
-    mark_inequality(n, width, rows, k, marks)
+    mark_inequality(tableau, k, marks)
 }
 
 // Marks the row at `k`, an inequality that has variables.
 fn mark_inequality<R: Row>(
-    n: usize,
-    width: usize,
-    rows: &[WorkingRow<R>],
+    tableau: &Tableau<R>,
     k: usize,
     marks: &mut Marks,
 ) -> Result<(), NoMemory>
-    requires fits { n < width }
-    requires wide { AllRows (Wide width) rows.now }
-    requires place { k < length rows.now }
+    requires place { k < length tableau.now.rows }
     requires count { length marks.old.stays.items ≡ k }
-    requires indexed { IsIndexed n rows.now marks.old.stays.items (get nat_cmp marks.old.places) }
-    requires variables { is_constant n (row_at rows.now k) ≡ false }
-    ensures { OnOk result (AddsMark n rows.now k marks.old.stays.items marks.new.stays.items (get nat_cmp marks.new.places)) }
+    requires indexed { IsIndexed tableau.now.variables tableau.now.rows marks.old.stays.items (get nat_cmp marks.old.places) }
+    requires variables { is_constant tableau.now.variables (row_at tableau.now.rows k) ≡ false }
+    ensures { OnOk result (AddsMark tableau.now.variables tableau.now.rows k
+        marks.old.stays.items marks.new.stays.items (get nat_cmp marks.new.places)) }
 {
-    let own = key(n, &rows[k]);
+    let w = tableau.row(k);
+    let own = key(tableau.variables(), w);
     match place_of(marks, own) {
         None => add(marks, own, Place::Only(k)),
         Some(Place::Only(i)) => {
-            if is_partner(n, width, rows, marks.stays.as_slice(), k, i) {
-                mark_with_partner(n, width, rows, k, i, marks, own, Place::Only(k))
+            if is_partner(tableau, marks.stays.as_slice(), k, i) {
+                mark_with_partner(tableau, k, i, marks, own, Place::Only(k))
             } else {
                 add(marks, own, Place::Several)
             }
         }
         Some(Place::Several) => {
-            match find_partner(n, width, rows, marks.stays.as_slice(), k) {
+            match find_partner(tableau, marks.stays.as_slice(), k) {
                 None => add(marks, own, Place::Several),
-                Some(i) => mark_with_partner(n, width, rows, k, i, marks, own, Place::Several),
+                Some(i) => mark_with_partner(tableau, k, i, marks, own, Place::Several),
             }
         }
     }
@@ -103,27 +88,27 @@ fn mark_inequality<R: Row>(
 
 // Marks the row at `k`, of which the one at `i` is the partner: the one with the lesser constant stays.
 fn mark_with_partner<R: Row>(
-    n: usize,
-    width: usize,
-    rows: &[WorkingRow<R>],
+    tableau: &Tableau<R>,
     k: usize,
     i: usize,
     marks: &mut Marks,
     own: u128,
     place: Place,
 ) -> Result<(), NoMemory>
-    requires fits { n < width }
-    requires wide { AllRows (Wide width) rows.now }
-    requires place { k < length rows.now }
+    requires place { k < length tableau.now.rows }
     requires count { length marks.old.stays.items ≡ k }
-    requires indexed { IsIndexed n rows.now marks.old.stays.items (get nat_cmp marks.old.places) }
-    requires variables { is_constant n (row_at rows.now k) ≡ false }
-    requires partner { IsFirstPartner n rows.now marks.old.stays.items (row_at rows.now k) i }
-    requires own { own ≡ key n (row_at rows.now k) }
+    requires indexed { IsIndexed tableau.now.variables tableau.now.rows marks.old.stays.items (get nat_cmp marks.old.places) }
+    requires variables { is_constant tableau.now.variables (row_at tableau.now.rows k) ≡ false }
+    requires partner { IsFirstPartner tableau.now.variables tableau.now.rows marks.old.stays.items (row_at tableau.now.rows k) i }
+    requires own { own ≡ key tableau.now.variables (row_at tableau.now.rows k) }
     requires follows { Follows (get nat_cmp marks.old.places own) place i k }
-    ensures { OnOk result (AddsMark n rows.now k marks.old.stays.items marks.new.stays.items (get nat_cmp marks.new.places)) }
+    ensures { OnOk result (AddsMark tableau.now.variables tableau.now.rows k
+        marks.old.stays.items marks.new.stays.items (get nat_cmp marks.new.places)) }
 {
-    if is_at_most(rows[i].entry(n), rows[k].entry(n)) {
+    let n = tableau.variables();
+    let partner = tableau.row(i);
+    let w = tableau.row(k);
+    if is_at_most(partner.entry(n), w.entry(n)) {
         marks.stays.push(false)?;
         return Ok(());
     }
@@ -132,21 +117,14 @@ fn mark_with_partner<R: Row>(
 }
 
 // The place of the first row that stays and is alike to the one at `k`, before which all are marked.
-fn find_partner<R: Row>(
-    n: usize,
-    width: usize,
-    rows: &[WorkingRow<R>],
-    stays: &[bool],
-    k: usize,
-) -> Option<usize>
-    requires fits { n < width }
-    requires wide { AllRows (Wide width) rows.now }
-    requires place { k < length rows.now }
+fn find_partner<R: Row>(tableau: &Tableau<R>, stays: &[bool], k: usize) -> Option<usize>
+    requires place { k < length tableau.now.rows }
     requires count { length stays.now ≡ k }
-    ensures { MatchOption result (IsAlone n rows.now stays.now (row_at rows.now k)) (λ i. IsFirstPartner n rows.now stays.now (row_at rows.now k) i) }
+    ensures { MatchOption result (IsAlone tableau.now.variables tableau.now.rows stays.now (row_at tableau.now.rows k))
+        (λ i. IsFirstPartner tableau.now.variables tableau.now.rows stays.now (row_at tableau.now.rows k) i) }
 {
     for i in 0..k {
-        if is_partner(n, width, rows, stays, k, i) {
+        if is_partner(tableau, stays, k, i) {
             return Some(i);
         }
     }
@@ -154,24 +132,15 @@ fn find_partner<R: Row>(
 }
 
 // Whether the row at `i` stays and is alike to the one at `k`, before which all are marked.
-fn is_partner<R: Row>(
-    n: usize,
-    width: usize,
-    rows: &[WorkingRow<R>],
-    stays: &[bool],
-    k: usize,
-    i: usize,
-) -> bool
-    requires fits { n < width }
-    requires wide { AllRows (Wide width) rows.now }
-    requires place { k < length rows.now }
+fn is_partner<R: Row>(tableau: &Tableau<R>, stays: &[bool], k: usize, i: usize) -> bool
+    requires place { k < length tableau.now.rows }
     requires count { length stays.now ≡ k }
-    ensures { result ≡ is_partner n rows.now stays.now (row_at rows.now k) i }
+    ensures { result ≡ is_partner tableau.now.variables tableau.now.rows stays.now (row_at tableau.now.rows k) i }
 {
     if i >= stays.len() || !stays[i] {
         return false;
     }
-    are_alike(n, &rows[i], &rows[k])
+    are_alike(tableau.variables(), tableau.row(i), tableau.row(k))
 }
 
 // Whether two rows are inequalities with equal coefficients on all `n` variables.

@@ -2,13 +2,15 @@
 
 ghost use Rattle.std.specs.Prelude.{◌≡◌, ◌<◌, ◌≤◌, ◌+◌, length, map, IfOk};
 ghost use Rattle.relation_core.specs.Systems.{columns};
-ghost use Rattle.elim_core.specs.RowLists.{AllRows, Wide};
-ghost use Rattle.elim_core.specs.Reductions.{BeginsWith, IsReduction, Reduces, Relieved, widened};
+ghost use Rattle.elim_core.specs.Reductions.{BeginsWith, IsReduction, Relieved, widened};
+ghost use Rattle.elim_core.specs.Tableaux.{with_rows, ReducesTo};
 
 use crate::counts::{row_count, variable_count};
-use crate::normalising::{find_contradiction, normalise};
+use crate::normalising::normalise;
+use crate::refutations::find_contradiction;
 use crate::starts::{start, start_from};
 use crate::substitutions::{substitute_copies, take_equality};
+use crate::tableaux::Tableau;
 use crate::verdicts::ElimFail;
 use crate::working_rows::{WorkingRow, is_constant, last_variable};
 use relation_core::Part;
@@ -39,7 +41,19 @@ impl<R: Row> Model for Reduced<R> {
 impl<R: Row> Reduced<R> {
     /// The working rows of a system whose rows begin with the base's: those that the base is reduced
     /// to, and the further rows of the system.
-    pub(crate) fn join(&self, alloc: Global, system: &Part) -> Result<Vec<WorkingRow<R>>, NoMemory>
+    pub(crate) fn join(&self, alloc: Global, system: &Part) -> Result<Tableau<R>, NoMemory>
+        requires { BeginsWith system.now self.now }
+        ensures variables { IfOk result (λ tableau. tableau.variables ≡ columns system.now.shape) }
+        ensures rows { IfOk result (λ tableau. IsReduction (columns system.now.shape) system.now.rows tableau.rows) }
+    {
+        let n = variable_count(system);
+        let count = row_count(system);
+        let rows = self.joined_rows(alloc, system)?;
+        Ok(Tableau::new(n, n + 1 + count, rows))
+    }
+
+    // The rows of `join`.
+    fn joined_rows(&self, alloc: Global, system: &Part) -> Result<Vec<WorkingRow<R>>, NoMemory>
         requires { BeginsWith system.now self.now }
         ensures { IfOk result (λ rows. IsReduction (columns system.now.shape) system.now.rows rows.items) }
     {
@@ -71,13 +85,15 @@ fn widen<R: Row>(
 pub fn reduce<R: Row>(alloc: Global, base: &Part) -> Result<Reduced<R>, NoMemory>
     ensures { IfOk result (λ shared. shared ≡ base.now) }
 {
-    let n = variable_count(base);
-    let width = n + 1 + row_count(base);
+    let _rows = row_count(base);
     let started = start::<R>(alloc, base)?;
-    let relieved = relieve_all(alloc, n, width, started)?;
-    let rows = normalise_sound(alloc, n, width, relieved)?;
+    let relieved = relieve_all(alloc, started)?;
+    let reduced = normalise_sound(alloc, relieved)?;
     let base = copied(alloc, base)?;
-    Ok(Reduced { base, rows })
+    Ok(Reduced {
+        base,
+        rows: reduced.into_rows(),
+    })
 }
 
 // A copy of a part.
@@ -90,20 +106,13 @@ fn copied(alloc: Global, part: &Part) -> Result<Part, NoMemory>
 }
 
 // The rows that have variables, pruned; the same rows where one of them is a contradiction.
-fn normalise_sound<R: Row>(
-    alloc: Global,
-    n: usize,
-    width: usize,
-    rows: Vec<WorkingRow<R>>,
-) -> Result<Vec<WorkingRow<R>>, NoMemory>
-    requires fits { n < width }
-    requires wide { AllRows (Wide width) rows.items }
-    ensures { IfOk result (λ made. Reduces n rows.items made.items) }
+fn normalise_sound<R: Row>(alloc: Global, tableau: Tableau<R>) -> Result<Tableau<R>, NoMemory>
+    ensures { IfOk result (λ made. ReducesTo tableau made) }
 {
-    match find_contradiction(n, width, rows.as_slice()) {
-        Some(_) => Ok(rows),
+    match find_contradiction(&tableau) {
+        Some(_) => Ok(tableau),
         None => {
-            let kept = normalise(alloc, n, width, rows)?;
+            let kept = normalise(alloc, tableau)?;
             Ok(kept)
         }
     }
@@ -111,46 +120,39 @@ fn normalise_sound<R: Row>(
 
 // The rows after each equality is substituted in the rows that no earlier one has left behind. The
 // equalities stay, before the other rows.
-fn relieve_all<R: Row>(
-    alloc: Global,
-    n: usize,
-    width: usize,
-    rows: Vec<WorkingRow<R>>,
-) -> Result<Vec<WorkingRow<R>>, NoMemory>
-    requires fits { n < width }
-    requires wide { AllRows (Wide width) rows.items }
-    ensures { IfOk result (λ made. Reduces n rows.items made.items) }
+fn relieve_all<R: Row>(alloc: Global, tableau: Tableau<R>) -> Result<Tableau<R>, NoMemory>
+    ensures { IfOk result (λ made. ReducesTo tableau made) }
 {
+    let n = tableau.variables();
+    let width = tableau.width();
     let mut done = Vec::new(alloc);
-    let mut rest = rows;
+    let mut rest = tableau;
     while let Some(e) = take_equality(&mut rest) {
-        rest = relieve(alloc, n, width, &e, rest)?;
+        rest = relieve(alloc, &e, rest)?;
         done.push(e)?;
     }
-    done.append(&mut rest)?;
-    Ok(done)
+    done.append(&mut rest.into_rows())?;
+    Ok(Tableau::new(n, width, done))
 }
 
 // The rows after an equality is substituted in them; the same rows where it has no variable, or where
 // the substitution would pass 2^127 - 1.
 fn relieve<R: Row>(
     alloc: Global,
-    n: usize,
-    width: usize,
     e: &WorkingRow<R>,
-    rows: Vec<WorkingRow<R>>,
-) -> Result<Vec<WorkingRow<R>>, NoMemory>
-    requires fits { n < width }
-    requires row { length e.now.entries ≡ width }
-    requires wide { AllRows (Wide width) rows.items }
-    ensures { IfOk result (λ made. Relieved n e.now rows.items made.items) }
+    tableau: Tableau<R>,
+) -> Result<Tableau<R>, NoMemory>
+    requires { length e.now.entries ≡ tableau.width }
+    ensures same { IfOk result (λ made. made ≡ with_rows tableau made.rows) }
+    ensures rows { IfOk result (λ made. Relieved tableau.variables e.now tableau.rows made.rows) }
 {
+    let n = tableau.variables();
     if is_constant(e, n) {
-        return Ok(rows);
+        return Ok(tableau);
     }
-    match substitute_copies(alloc, last_variable(e, n), width, e, rows.as_slice()) {
+    match substitute_copies(alloc, last_variable(e, n), e, &tableau) {
         Ok(made) => Ok(made),
         Err(ElimFail::Memory) => Err(NoMemory),
-        Err(_) => Ok(rows),
+        Err(_) => Ok(tableau),
     }
 }

@@ -2,9 +2,12 @@
 //! at its own place.
 
 ghost use Rattle.std.specs.Prelude.{◌≡◌, ◌<◌, ◌≤◌, ◌+◌, ◌-◌, ◌++◌, ◌∷◌, [], pos, drop, replicate, length, IfOk, OnOk};
-ghost use Rattle.relation_core.specs.Systems.{row_at, width};
-ghost use Rattle.elim_core.specs.Elimination.{unit, started_from, started};
+ghost use Rattle.relation_core.specs.Systems.{row_at};
+ghost use Rattle.elim_core.specs.Elimination.{unit, started_from};
+ghost use Rattle.elim_core.specs.Tableaux.{starting};
 
+use crate::counts::{row_count, variable_count};
+use crate::tableaux::Tableau;
 use crate::working_rows::WorkingRow;
 use relation_core::Part;
 use row_core::{Coeff, Row};
@@ -12,12 +15,14 @@ use std::alloc::Global;
 use suite_base::NoMemory;
 
 /// The rows of `system`, each with its multipliers behind it.
-pub fn start<R: Row>(alloc: Global, system: &Part) -> Result<Vec<WorkingRow<R>>, NoMemory>
-    ensures { IfOk result (λ rows. rows.items ≡ started system.now.rows) }
+pub fn start<R: Row>(alloc: Global, system: &Part) -> Result<Tableau<R>, NoMemory>
+    ensures { IfOk result (λ tableau. tableau ≡ starting system.now) }
 {
-    let mut rows = Vec::with_capacity(alloc, system.row_count())?;
+    let n = variable_count(system);
+    let count = row_count(system);
+    let mut rows = Vec::with_capacity(alloc, count)?;
     start_from(alloc, system, 0, &mut rows)?;
-    Ok(rows)
+    Ok(Tableau::new(n, n + 1 + count, rows))
 }
 
 /// Appends the rows of `system` from row `first` on, each with its multipliers behind it.

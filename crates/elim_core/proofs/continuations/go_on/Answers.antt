@@ -4,6 +4,6 @@ use Rattle.elim_core.proofs.continuations.go_on.Goals as goal
 
 pub returns : goal.returns
 returns g c =
-    settles_ok c.args.system.now c.variable_count-n.result c.as_slice.result.now c.in_ok-rows.rows.items c.len-most.result c.from_rows.result
-    c.variable_count-n.ensures.value (c.as_slice.ensures.value ∙ c.in_ok-columns.ensures)
-    c.in_ok-rows.ensures (omega (arith, c.len-most.ensures)) c.from_rows.ensures.ok
+    settles_ok c.args.system.now c.in_ok-tableau.tableau.variables c.as_slice.result.now c.in_ok-tableau.tableau.rows c.row_count-most.result c.from_rows.result
+    c.in_ok-tableau.ensures.variables (c.as_slice.ensures.value ∙ c.in_ok-columns.ensures.order)
+    c.in_ok-tableau.ensures.rows (omega (arith, c.row_count-most.ensures)) c.from_rows.ensures.ok

@@ -5,6 +5,6 @@ use Rattle.elim_core.proofs.normalising.keep_marked.Given as goal
 
 abbrev pub invariant-loop-w : goal.invariant-loop-w
 invariant-loop-w g l = record {
-  left : l.kept.items ++ marked (into_iter_items l.w-iterator) (drop l.k l.stays) ≡ marked l.fn.rows.items l.stays;
+  left : l.kept.items ++ marked (into_iter_items l.w-iterator) (drop l.k l.stays) ≡ marked l.fn.tableau.rows l.stays;
   count : l.k + length (into_iter_items l.w-iterator) ≡ length l.stays;
 }

@@ -6,6 +6,6 @@ use Rattle.elim_core.proofs.projections.keep_flat.Given as goal
 
 abbrev pub invariant-loop-w : goal.invariant-loop-w
 invariant-loop-w g l = record {
-  left : l.kept.items ++ flat_rows l.j (into_iter_items l.w-iterator) ≡ flat_rows l.j l.fn.rows.items;
-  wide : AllRows (Wide l.width) (into_iter_items l.w-iterator);
+  left : l.kept.items ++ flat_rows l.j (into_iter_items l.w-iterator) ≡ flat_rows l.j l.fn.tableau.rows;
+  wide : AllRows (Wide l.fn.tableau.width) (into_iter_items l.w-iterator);
 }

@@ -5,4 +5,4 @@ use Rattle.elim_core.specs.Pruning.{is_partner}
 use Rattle.elim_core.proofs.pruning.find_partner.Given as goal
 
 abbrev pub invariant-loop-i : goal.invariant-loop-i
-invariant-loop-i g l = (j : ℕ) → j < l.i → is_partner l.n l.rows l.stays (row_at l.rows l.k) j ≡ false
+invariant-loop-i g l = (j : ℕ) → j < l.i → is_partner l.tableau.variables l.tableau.rows l.stays (row_at l.tableau.rows l.k) j ≡ false

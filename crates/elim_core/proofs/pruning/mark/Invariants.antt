@@ -7,7 +7,7 @@ use Rattle.elim_core.proofs.pruning.mark.Given as goal
 
 abbrev pub invariant-loop-k : goal.invariant-loop-k
 invariant-loop-k g l = record {
-  left : pruned_onto l.n (marked l.rows l.marks.stays.items) (with_variables l.n (drop l.k l.rows)) ≡ normalised l.n l.rows;
+  left : pruned_onto l.tableau.variables (marked l.tableau.rows l.marks.stays.items) (with_variables l.tableau.variables (drop l.k l.tableau.rows)) ≡ normalised l.tableau.variables l.tableau.rows;
   count : length l.marks.stays.items ≡ l.k;
-  indexed : IsIndexed l.n l.rows l.marks.stays.items (get nat_cmp l.marks.places);
+  indexed : IsIndexed l.tableau.variables l.tableau.rows l.marks.stays.items (get nat_cmp l.marks.places);
 }

@@ -1,5 +1,5 @@
 use Rattle.elim_core.proofs.Joining.{joined}
-use Rattle.elim_core.proofs.reductions.Reduced.join.Goals as goal
+use Rattle.elim_core.proofs.reductions.Reduced.joined_rows.Goals as goal
 
 pub returns : goal.returns
 returns g c =
