@@ -124,13 +124,7 @@ fn part_of_rows(alloc: Global, low: FormRow, high: FormRow) -> Result<List<Const
     let mut rows = List::new(alloc);
     rows.push(low)?;
     rows.push(high)?;
-    part_of_one(
-        alloc,
-        Constraint {
-            rows,
-            has_local: true,
-        },
-    )
+    part_of_one(alloc, Constraint::of_rows(alloc, rows, true)?)
 }
 
 // The form less 1.

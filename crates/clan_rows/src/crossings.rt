@@ -6,7 +6,7 @@ ghost use Rattle.clan_rows.specs.Pieces.{all_joined, each_behind};
 ghost use Rattle.clan_rows.specs.Contents.{part_of, said};
 ghost use Rattle.clan_rows.specs.Layers.{crossed_layers, in_turn_layers};
 
-use crate::constraints::{Constraint, push_copies};
+use crate::constraints::{Constraint, push_shared};
 use crate::layers::Layer;
 use std::alloc::Global;
 use suite_base::{List, NoMemory};
@@ -19,9 +19,9 @@ fn joined_part(
 ) -> Result<List<Constraint>, NoMemory>
     ensures { IfOk result (λ part. part ≡ left.now ++ right.now) }
 {
-    let mut part = List::new(alloc);
-    push_copies(alloc, left, &mut part)?;
-    push_copies(alloc, right, &mut part)?;
+    let mut part = List::with_capacity(alloc, left.len().saturating_add(right.len()))?;
+    push_shared(left, &mut part)?;
+    push_shared(right, &mut part)?;
     Ok(part)
 }
 

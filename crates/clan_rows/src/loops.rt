@@ -55,10 +55,7 @@ fn unit_part(alloc: Global, bounds: Bounds) -> Result<Option<List<Constraint>>, 
     ensures { IfOk result (λ part. made_part part ≡ bounds_part (bounds_of bounds)) }
 {
     if bounds.fits {
-        let constraint = Constraint {
-            rows: bounds.rows,
-            has_local: false,
-        };
+        let constraint = Constraint::of_rows(alloc, bounds.rows, false)?;
         Ok(Some(part_of_one(alloc, constraint)?))
     } else {
         Ok(None)
@@ -91,10 +88,7 @@ fn stride_part(
         None => Ok(None),
         Some(row) => {
             if bounds.fits {
-                let first = Constraint {
-                    rows: bounds.rows,
-                    has_local: false,
-                };
+                let first = Constraint::of_rows(alloc, bounds.rows, false)?;
                 let second = Constraint::of_row(alloc, row, true)?;
                 Ok(Some(part_of_two(alloc, first, second)?))
             } else {
