@@ -11,15 +11,14 @@ use crate::decisions::decide_by_elimination;
 use crate::orders::column_order;
 use crate::phases::from_rows;
 use crate::reductions::Reduced;
-use crate::searches::search_checked;
 use crate::verdicts::{ElimFail, Verdict};
 use farkas_cert::{Certificate, check};
 use relation_core::Part;
 use row_core::Row;
 use std::alloc::Global;
 
-/// Decides `system` as `decide_by` does, but its elimination begins with the reduced rows of its first
-/// rows. The system has the base's shape, and its rows begin with the base's. Where this way passes
+/// Decides `system` as `decide_by` does, but the simplex method goes on from where it has ended for the first
+/// rows, and the elimination begins with the reduced rows of these. The system has the base's shape, and its rows begin with the base's. Where this way passes
 /// 2^127 - 1 or 16,384 rows, it falls back to the stated elimination of the whole system.
 pub fn decide_with<R: Row>(
     alloc: Global,
@@ -31,7 +30,7 @@ pub fn decide_with<R: Row>(
     ensures overflow { IfErr result (λ fail. fail ≡ ElimFail.Overflow → 2 ^ 127 ≤ (peak system.now).weight) }
     ensures rows { IfErr result (λ fail. fail ≡ ElimFail.TooManyRows → max_stage_rows < (peak system.now).rows) }
 {
-    match search_checked(alloc, system) {
+    match shared.search(alloc, system) {
         Err(_) => Err(ElimFail::Memory),
         Ok(Some(verdict)) => Ok(verdict),
         Ok(None) => decide_from_base(alloc, shared, system),

@@ -1,29 +1,34 @@
 //! The reduction of rows that several systems share: their equalities are substituted once.
 
-ghost use Rattle.std.specs.Prelude.{◌≡◌, ◌<◌, ◌≤◌, ◌+◌, length, map, IfOk};
+ghost use Rattle.std.specs.Prelude.{◌≡◌, ◌<◌, ◌≤◌, ◌+◌, length, map, IfOk, IfSome};
 ghost use Rattle.relation_core.specs.Systems.{columns};
+ghost use Rattle.elim_core.specs.Peaks.{IsRight};
 ghost use Rattle.elim_core.specs.Reductions.{BeginsWith, IsReduction, Relieved, widened};
 ghost use Rattle.elim_core.specs.Tableaux.{with_rows, ReducesTo};
 
 use crate::counts::{row_count, variable_count};
 use crate::normalising::normalise;
 use crate::refutations::find_contradiction;
+use crate::searches::{search_checked, search_from};
 use crate::starts::{start, start_from};
 use crate::substitutions::{substitute_copies, take_equality};
 use crate::tableaux::Tableau;
-use crate::verdicts::ElimFail;
+use crate::verdicts::{ElimFail, Verdict};
 use crate::working_rows::{WorkingRow, is_constant, last_variable};
 use relation_core::Part;
 use row_core::Row;
+use simplex_core::WarmStart;
 use std::alloc::Global;
 use std::marker::Model;
 use suite_base::NoMemory;
 
-/// A base whose equalities are substituted, so that the systems whose rows begin with the base's
-/// need not do it again. Contracts see the base.
+/// A base that the simplex method has searched, and whose equalities are substituted, so that the systems
+/// whose rows begin with the base's need not do it again. Contracts see the base.
 #[derive(Drop)]
 pub struct Reduced<R: Row> {
     base: Part,
+    // where the simplex method has ended for the base, unless it gave up
+    warm: Option<WarmStart>,
     rows: Vec<WorkingRow<R>>,
 }
 
@@ -39,6 +44,17 @@ impl<R: Row> Model for Reduced<R> {
 }
 
 impl<R: Row> Reduced<R> {
+    /// The verdict that the simplex method finds for a system whose rows begin with the base's; `None`
+    /// where it finds nothing, or where the check does not accept what it has found.
+    pub(crate) fn search(&self, alloc: Global, system: &Part) -> Result<Option<Verdict>, NoMemory>
+        ensures { IfOk result (λ found. IfSome found (λ verdict. IsRight system.now verdict)) }
+    {
+        match &self.warm {
+            Some(warm) => search_from(alloc, warm, system),
+            None => search_checked(alloc, system),
+        }
+    }
+
     /// The working rows of a system whose rows begin with the base's: those that the base is reduced
     /// to, and the further rows of the system.
     pub(crate) fn join(&self, alloc: Global, system: &Part) -> Result<Tableau<R>, NoMemory>
@@ -89,9 +105,11 @@ pub fn reduce<R: Row>(alloc: Global, base: &Part) -> Result<Reduced<R>, NoMemory
     let started = start::<R>(alloc, base)?;
     let relieved = relieve_all(alloc, started)?;
     let reduced = normalise_sound(alloc, relieved)?;
+    let warm = WarmStart::new(alloc, base)?;
     let base = copied(alloc, base)?;
     Ok(Reduced {
         base,
+        warm,
         rows: reduced.into_rows(),
     })
 }

@@ -7,7 +7,7 @@ use crate::verdicts::Verdict;
 use farkas_cert::{Certificate, check, check_point};
 use relation_core::Part;
 use row_core::Coeff;
-use simplex_core::{Candidate, search};
+use simplex_core::{Candidate, WarmStart, search};
 use std::alloc::Global;
 use suite_base::NoMemory;
 
@@ -16,10 +16,28 @@ use suite_base::NoMemory;
 pub fn search_checked(alloc: Global, system: &Part) -> Result<Option<Verdict>, NoMemory>
     ensures { IfOk result (λ found. IfSome found (λ verdict. IsRight system.now verdict)) }
 {
-    match search(alloc, system)? {
-        Candidate::Point(point) => Ok(accept_point(system, point.as_slice())),
-        Candidate::Refutation(certificate) => Ok(accept_refutation(system, certificate)),
-        Candidate::Nothing => Ok(None),
+    Ok(accepted(system, search(alloc, system)?))
+}
+
+/// As `search_checked`, but the search goes on from that of the first rows.
+pub fn search_from(
+    alloc: Global,
+    warm: &WarmStart,
+    system: &Part,
+) -> Result<Option<Verdict>, NoMemory>
+    ensures { IfOk result (λ found. IfSome found (λ verdict. IsRight system.now verdict)) }
+{
+    Ok(accepted(system, warm.search(alloc, system)?))
+}
+
+// The verdict of what a search has found, where the check accepts it.
+fn accepted(system: &Part, candidate: Candidate) -> Option<Verdict>
+    ensures { IfSome result (λ verdict. IsRight system.now verdict) }
+{
+    match candidate {
+        Candidate::Point(point) => accept_point(system, point.as_slice()),
+        Candidate::Refutation(certificate) => accept_refutation(system, certificate),
+        Candidate::Nothing => None,
     }
 }
 
