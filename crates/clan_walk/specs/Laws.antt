@@ -1,5 +1,6 @@
 -- The walk over a region gives the region's SCoP or its first refusal.
 use Rattle.std.specs.Prelude.{◌≡◌, ◌≤◌, ◌+◌, ℕ, min, List, None, false}
+use Rattle.suite_base.specs.Limits.{max_statements}
 use Rattle.scop_data.specs.Pieces.{pieces_of}
 use Rattle.scop_core.specs.Assembly as assembly
 use Rattle.scop_core.specs.Printable.{IsPrintable}
@@ -48,7 +49,7 @@ pub record Keeps (s t : State) (count : ℕ) : Type 0 where
   pub loops : t.loops ≡ s.loops
   pub turns : t.turns ≡ s.turns
   pub layers : t.layers ≡ s.layers
-  pub number : s.number ≤ 1025 → t.number ≡ min (s.number + count) 1025
+  pub number : s.number ≤ max_statements + 1 → t.number ≡ min (s.number + count) (max_statements + 1)
 
 abbrev pub WalkKeepsPlaces : Type 0
 WalkKeepsPlaces = ((node : Node) (s : State) → Keeps s (walked node s) (assignments node)) × ((nodes : Nodes) (s : State) → Keeps s (walked_all nodes s) (assignments_in nodes))

@@ -1,6 +1,7 @@
 //! The domain of a statement: a part for each part of what stands round it.
 
 ghost use Rattle.std.specs.Prelude.{◌≡◌, ◌≤◌, ◌+◌, [], ◌∷◌, ◌++◌, length, map, cond, true, IfOk, OnOk};
+ghost use Rattle.suite_base.specs.Limits.{max_locals};
 ghost use Rattle.clan_extract.specs.Scops.{padded, locals_in, local_columns, part_row, part_rows, part};
 ghost use Rattle.clan_rows.specs.Contents.{row_of, constraint_of};
 ghost use Rattle.clan_walk.specs.Walk.{are_narrow};
@@ -145,7 +146,7 @@ fn domain_part(
 ) -> Result<Part, NoMemory>
     requires iterators { iterators ≤ 65536 }
     requires parameters { parameters ≤ 65536 }
-    requires narrow { locals_in (map constraint_of constraints.now) ≤ 24 }
+    requires narrow { locals_in (map constraint_of constraints.now) ≤ max_locals }
     ensures { IfOk result (λ made. made ≡ part iterators parameters (map constraint_of constraints.now)) }
 {
     let shape = Shape {

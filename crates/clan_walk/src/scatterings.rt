@@ -1,6 +1,7 @@
 //! The schedule of a statement from the loops that are open round it.
 
 ghost use Rattle.std.specs.Prelude.{◌≡◌, ◌≤◌, ◌<◌, ◌+◌, ℕ, pos, [], ◌∷◌, ◌++◌, length, map, get_or, IfOk, OnOk};
+ghost use Rattle.suite_base.specs.Limits.{max_iterators, max_parameters};
 ghost use Rattle.scop_data.specs.SolvedRows.{unit, zeros, schedule_part};
 ghost use Rattle.clan_extract.specs.Scops.{levels};
 ghost use Rattle.clan_walk.specs.Walk.{sign, signs};
@@ -88,8 +89,8 @@ pub fn scattering(
     next: usize,
     parameters: usize,
 ) -> Result<Relation, NoMemory>
-    requires loops { length turns.now ≤ 12 }
-    requires parameters { parameters ≤ 16 }
+    requires loops { length turns.now ≤ max_iterators }
+    requires parameters { parameters ≤ max_parameters }
     ensures { IfOk result (λ relation. relation ≡ schedule_part (length turns.now) parameters (record { floors = []; levels = levels parameters (signs turns.now); betas = map (λ t. pos t.beta) turns.now ++ pos next ∷ [] }) ∷ []) }
 {
     let schedule = Schedule {
