@@ -1,6 +1,7 @@
 //! The decision of all violations, in their order.
 
 ghost use Rattle.std.specs.Prelude.{◌≡◌, ◌+◌, ◌<◌, ◌≤◌, ◌^◌, length, IfOk};
+ghost use Rattle.suite_base.specs.Limits.{max_systems};
 ghost use Rattle.scop_core.specs.Sequences.{In};
 ghost use Rattle.dependence_systems.specs.Systems.{system_weight};
 ghost use Rattle.legality.specs.Answers.{IsAnswer, IsKnown, IsSaid};
@@ -124,7 +125,7 @@ fn entry_levels(
 fn decide_entries(alloc: Global, scop: &Scop, edited: &Edited, list: &[Dep]) -> Result<Legal, Fail>
     requires edit { IsEdit (edit_of scop.now edited.now) }
     requires listed { list.now ≡ dependences (edit_of scop.now edited.now) }
-    requires few { length list.now ≤ 65536 }
+    requires few { length list.now ≤ max_systems }
     ensures { IsSaid (edit_of scop.now edited.now) 1 (violations (edit_of scop.now edited.now)) result }
 {
     let mut number = 0;
