@@ -96,11 +96,13 @@ fn time_all(rt: &HostRuntime) -> Result<(), Fail> {
         t.points, t.empty, t.limits
     )?;
     for count in [1, 32, 1_024] {
-        let spent = script_time(rt, rt.alloc(), count)?;
-        eprintln!(rt;
-            "4,096 commands on {count} statements: {} us",
-            spent / 1_000
-        )?;
+        match script_time(rt, rt.alloc(), count)? {
+            None => eprintln!(rt; "4,096 commands on {count} statements: refused")?,
+            Some(spent) => eprintln!(rt;
+                "4,096 commands on {count} statements: {} us",
+                spent / 1_000
+            )?,
+        }
     }
 
     let text = assignments(rt.alloc())?;
