@@ -1,5 +1,5 @@
 -- Sparse rows: the entries that are not 0, with their places.
-use Rattle.std.specs.Prelude.{ℤ, pos, negsuc, ℕ, zero, suc, ◌≡◌, ◌≤◌, Bool, true, false, cond, ◌==◌, List, [], ◌∷◌}
+use Rattle.std.specs.Prelude.{ℤ, pos, negsuc, ℕ, zero, suc, ◌≡◌, ◌≤◌, Bool, true, false, cond, nat_lt, min, ◌==◌, List, [], ◌∷◌}
 use Rattle.row_core.specs.declared.entries.Entry.{Entry}
 use Rattle.row_core.specs.Rows.{AreCoefficients}
 
@@ -44,3 +44,8 @@ past k (e ∷ entries) = cond (e.place == k) entries (e ∷ entries)
 abbrev pub value_among : ℕ → List Entry → ℤ
 value_among k [] = pos 0
 value_among k (e ∷ entries) = cond (e.place == k) e.value (value_among k entries)
+
+-- the place of the first entry from place start on, where it stands before end; else end
+abbrev pub place_from : ℕ → ℕ → List Entry → ℕ
+place_from start end [] = end
+place_from start end (e ∷ entries) = cond (nat_lt e.place start) (place_from start end entries) (min e.place end)

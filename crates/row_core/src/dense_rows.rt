@@ -1,6 +1,6 @@
 //! A row of coefficients that keeps every entry, in the value itself where it is short.
 
-ghost use Rattle.std.specs.Prelude.{◌≡◌, ◌<◌, ◌≤◌, [], ◌∷◌, ◌++◌, length, insert, swap, IfOk, OnOk, OnErr};
+ghost use Rattle.std.specs.Prelude.{◌≡◌, ◌<◌, ◌≤◌, [], ◌∷◌, ◌++◌, ℕ, pos, replicate, length, insert, swap, IfOk, OnOk, OnErr};
 ghost use Rattle.row_core.specs.Rows.{entry, AreCoefficients};
 
 use crate::coeffs::Coeff;
@@ -36,8 +36,8 @@ impl DenseRow {
         }
     }
 
-    // The empty row, with room for `capacity` entries.
-    fn with_capacity(alloc: Global, capacity: usize) -> Result<DenseRow, NoMemory>
+    /// The empty row, with room for `capacity` entries.
+    pub fn with_capacity(alloc: Global, capacity: usize) -> Result<DenseRow, NoMemory>
         ensures { IfOk result (λ row. row ≡ []) }
     {
         Ok(DenseRow {
@@ -104,6 +104,33 @@ impl DenseRow {
         let _in_range = entry.value();
         self.coeffs.insert(k, entry)?;
         Ok(())
+    }
+
+    /// Appends `count` zeros.
+    pub fn push_zeros(&mut self, count: usize) -> Result<(), NoMemory>
+        ensures { OnOk result (self.new ≡ self.old ++ replicate count (pos 0)) }
+    {
+        for _ in 0..count {
+            self.push(Coeff::ZERO)?;
+        }
+        Ok(())
+    }
+
+    /// The first place from `start` on whose entry is not 0; `end` where there is none before it.
+    pub fn next_place(&self, start: usize, end: usize) -> usize
+        requires range { start ≤ end }
+        requires within { end ≤ length self.now }
+        ensures from { start ≤ result }
+        ensures to { result ≤ end }
+        ensures zeros { (k : ℕ) → start ≤ k → k < result → entry self.now k ≡ pos 0 }
+        ensures found { result < end → ¬ (entry self.now result ≡ pos 0) }
+    {
+        for k in start..end {
+            if !self.get(k).is_zero() {
+                return k;
+            }
+        }
+        end
     }
 
     /// A copy of the row.

@@ -10,7 +10,7 @@ use suite_base::NoMemory;
 
 /// A list of coefficients. An implementation chooses how it keeps them; contracts see the list.
 pub trait Row: Sized + Drop {
-    ghost use Rattle.std.specs.Prelude.{◌≡◌, ◌<◌, ◌≤◌, ◌^◌, ℤ, List, ◌+ℤ◌, ◌*ℤ◌, length, IfOk, IfErr, OnOk};
+    ghost use Rattle.std.specs.Prelude.{◌≡◌, ◌<◌, ◌≤◌, ◌+◌, ◌-◌, ◌^◌, ℕ, ℤ, pos, List, [], ◌∷◌, ◌++◌, replicate, ◌+ℤ◌, ◌*ℤ◌, length, IfOk, IfErr, OnOk};
     ghost use Rattle.row_core.specs.Rows.{entry, dot, combined, combined_weight, IsHeavy, AreCoefficients};
 
     ghost coefficients: { Self → List ℤ };
@@ -28,6 +28,29 @@ pub trait Row: Sized + Drop {
     fn get(&self, k: usize) -> Coeff
         requires { k < length (coefficients self.now) }
         ensures { result ≡ entry (coefficients self.now) k };
+
+    /// The empty row, with room for `count` entries that are not 0.
+    fn with_capacity(alloc: Global, count: usize) -> Result<Self, NoMemory>
+        ensures { IfOk result (λ row. coefficients row ≡ []) };
+
+    /// Appends an entry.
+    fn push(&mut self, value: Coeff) -> Result<(), NoMemory>
+        requires { length (coefficients self.old) < 2 ^ 64 - 1 }
+        ensures { OnOk result (coefficients self.new ≡ coefficients self.old ++ value ∷ []) };
+
+    /// Appends `count` zeros.
+    fn push_zeros(&mut self, count: usize) -> Result<(), NoMemory>
+        requires { length (coefficients self.old) + count < 2 ^ 64 }
+        ensures { OnOk result (coefficients self.new ≡ coefficients self.old ++ replicate count (pos 0)) };
+
+    /// The first place from `start` on whose entry is not 0; `end` where there is none before it.
+    fn next_place(&self, start: usize, end: usize) -> usize
+        requires range { start ≤ end }
+        requires within { end ≤ length (coefficients self.now) }
+        ensures from { start ≤ result }
+        ensures to { result ≤ end }
+        ensures zeros { (k : ℕ) → start ≤ k → k < result → entry (coefficients self.now) k ≡ pos 0 }
+        ensures found { result < end → ¬ (entry (coefficients self.now) result ≡ pos 0) };
 
     /// The row `p a + q b`, column by column; `a` and `b` have equal lengths. Overflow comes exactly
     /// where the absolute values of the two products sum above 2^127 - 1 in some column.
@@ -57,6 +80,22 @@ impl Row for DenseRow {
 
     fn from_coeffs(alloc: Global, coeffs: &[Coeff]) -> Result<DenseRow, NoMemory> {
         DenseRow::from_coeffs(alloc, coeffs)
+    }
+
+    fn with_capacity(alloc: Global, count: usize) -> Result<DenseRow, NoMemory> {
+        DenseRow::with_capacity(alloc, count)
+    }
+
+    fn push(&mut self, value: Coeff) -> Result<(), NoMemory> {
+        DenseRow::push(self, value)
+    }
+
+    fn push_zeros(&mut self, count: usize) -> Result<(), NoMemory> {
+        DenseRow::push_zeros(self, count)
+    }
+
+    fn next_place(&self, start: usize, end: usize) -> usize {
+        DenseRow::next_place(self, start, end)
     }
 
     fn len(&self) -> usize {
@@ -91,6 +130,23 @@ impl Row for SparseRow {
 
     fn from_coeffs(alloc: Global, coeffs: &[Coeff]) -> Result<SparseRow, NoMemory> {
         SparseRow::from_coeffs(alloc, coeffs)
+    }
+
+    fn with_capacity(alloc: Global, count: usize) -> Result<SparseRow, NoMemory> {
+        SparseRow::with_capacity(alloc, count)
+    }
+
+    fn push(&mut self, value: Coeff) -> Result<(), NoMemory> {
+        SparseRow::push(self, value)
+    }
+
+    fn push_zeros(&mut self, count: usize) -> Result<(), NoMemory> {
+        SparseRow::push_zeros(self, count);
+        Ok(())
+    }
+
+    fn next_place(&self, start: usize, end: usize) -> usize {
+        SparseRow::next_place(self, start, end)
     }
 
     fn len(&self) -> usize {

@@ -1,7 +1,7 @@
 //! Entries of a sparse row, looked up by their place.
 
 ghost use Rattle.std.specs.Prelude.{◌≡◌, ◌≤◌, length};
-ghost use Rattle.row_core.specs.Sparse.{value_at, past, value_among as found, Begins};
+ghost use Rattle.row_core.specs.Sparse.{value_at, past, value_among as found, place_from as spec_place_from, Begins};
 
 use crate::coeffs::Coeff;
 use crate::entries::Entry;
@@ -52,4 +52,16 @@ pub fn value_among(entries: &[Entry], place: usize) -> Coeff
         }
     }
     Coeff::ZERO
+}
+
+/// The place of the first entry from place `start` on, where it stands before `end`; else `end`.
+pub fn place_from(entries: &[Entry], start: usize, end: usize) -> usize
+    ensures { result ≡ spec_place_from start end entries.now }
+{
+    for entry in entries {
+        if entry.place >= start {
+            return entry.place.min(end);
+        }
+    }
+    end
 }

@@ -1,12 +1,12 @@
 //! A row of coefficients that keeps only the entries that are not 0.
 
-ghost use Rattle.std.specs.Prelude.{◌≡◌, ◌<◌, ◌≤◌, ◌+◌, ◌-◌, ◌^◌, [], ◌∷◌, ◌++◌, pos, length, replicate, IfOk, OnOk, OnErr};
+ghost use Rattle.std.specs.Prelude.{◌≡◌, ◌<◌, ◌≤◌, ◌+◌, ◌-◌, ◌^◌, ℕ, [], ◌∷◌, ◌++◌, pos, length, replicate, IfOk, OnOk, OnErr};
 ghost use Rattle.row_core.specs.Rows.{entry, AreCoefficients};
 ghost use Rattle.row_core.specs.Sparse.{nonzeros};
 
 use crate::coeffs::Coeff;
 use crate::entries::Entry;
-use crate::sparse_entries::value_among;
+use crate::sparse_entries::{place_from, value_among};
 use std::alloc::Global;
 use std::marker::Model;
 use suite_base::NoMemory;
@@ -74,6 +74,18 @@ impl SparseRow {
         ensures { result ≡ entry self.now k }
     {
         value_among(self.entries(), k)
+    }
+
+    /// The first place from `start` on whose entry is not 0; `end` where there is none before it.
+    pub fn next_place(&self, start: usize, end: usize) -> usize
+        requires range { start ≤ end }
+        requires within { end ≤ length self.now }
+        ensures from { start ≤ result }
+        ensures to { result ≤ end }
+        ensures zeros { (k : ℕ) → start ≤ k → k < result → entry self.now k ≡ pos 0 }
+        ensures found { result < end → ¬ (entry self.now result ≡ pos 0) }
+    {
+        place_from(self.entries(), start, end)
     }
 
     /// The entries that are not 0, each with its place, in rising order of the places.
