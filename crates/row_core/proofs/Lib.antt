@@ -4,4 +4,7 @@ pub mod Rows
 pub mod Sparse
 pub mod Places
 pub mod DenseSteps
+pub mod DenseOrder
+pub mod DenseSlices
+pub mod DensePlaces
 mod Merging

@@ -1,91 +1,137 @@
-//! The dense numbering of vectors of coefficients.
+//! The dense numbering of vectors of coefficients: the vectors are sorted, and each is numbered from
+//! the one before it.
 
-ghost use Rattle.std.specs.Prelude.{◌≡◌, ◌≤◌, ◌<◌, ◌^◌, ℤ, length, map, filter, int_lt, IfOk};
-ghost use Rattle.std.specs.BTreeSet.{IsFromIterResult};
-ghost use Rattle.std.specs.Ordering.{int_cmp};
-ghost use Rattle.row_core.specs.Dense.{heads, rests, lesser, dense_among, dense_of};
+ghost use Rattle.std.specs.Prelude.{◌≡◌, ℕ, ◌<◌, ◌^◌, [], ◌++◌, length, map, slice_get, Some, All, Contains, IfOk};
+ghost use Rattle.std.specs.Cmp.Lexicographic.{slice_cmp};
+ghost use Rattle.std.specs.List.Sorted.{IsSorted};
+ghost use Rattle.std.specs.Ordering.{int_cmp, int_eq};
+ghost use Rattle.row_core.specs.Dense.{dense_of};
+ghost use Rattle.row_core.specs.DenseOrder.{numbered_after};
 
 use crate::coeffs::Coeff;
-use std::alloc::{AllocError, Global};
-use std::collections::BTreeSet;
+use std::alloc::Global;
+use std::cmp::Ordering;
 use suite_base::{List, NoMemory};
 
-// The first entries of the vectors of `group` that are below `limit`.
-fn heads_below(alloc: Global, limit: Coeff, group: &[&[Coeff]]) -> Result<Vec<i128>, NoMemory>
-    ensures { IfOk result (λ found. found.items ≡ filter (λ y. int_lt y limit) (heads (map (λ v. v.now) group.now))) }
+// The lexicographic order of two vectors.
+fn compare(left: &[Coeff], right: &[Coeff]) -> Ordering
+    ensures { result ≡ slice_cmp int_cmp left.now right.now }
 {
-    let mut found = Vec::new(alloc);
-    for vector in group {
-        if let [first, ..] = vector
-            && first.value() < limit.value()
-        {
-            found.push(first.value())?;
+    let mut left = left;
+    let mut right = right;
+    while let [x, xs @ ..] = left {
+        let [y, ys @ ..] = right else {
+            return Ordering::Greater;
+        };
+        match x.value().cmp(&y.value()) {
+            Ordering::Equal => {
+                left = xs;
+                right = ys;
+            }
+            decided => return decided,
         }
     }
-    Ok(found)
+    0usize.cmp(&right.len())
 }
 
-// The distinct ones of `numbers`.
-fn distinct_numbers(alloc: Global, numbers: Vec<i128>) -> Result<BTreeSet<i128>, AllocError>
-    ensures { IfOk result (IsFromIterResult int_cmp numbers.items) }
-{
-    numbers.into_iter().collect(alloc)
-}
-
-// How many distinct first entries of the vectors of `group` are below `limit`.
-fn count_lesser(alloc: Global, limit: Coeff, group: &[&[Coeff]]) -> Result<usize, NoMemory>
-    ensures { IfOk result (λ count. count ≡ lesser limit (heads (map (λ v. v.now) group.now))) }
-{
-    let numbers = heads_below(alloc, limit, group)?;
-    let distinct = distinct_numbers(alloc, numbers)?;
-    Ok(distinct.len())
-}
-
-// What follows the first entry, of the vectors of `group` whose first entry is `first`.
-fn matching_rests<'a>(
+// All of `vectors`, each with its place.
+fn placed_vectors<'a>(
     alloc: Global,
-    first: Coeff,
-    group: &[&'a [Coeff]],
-) -> Result<Vec<&'a [Coeff]>, NoMemory>
-    ensures { IfOk result (λ found. map (λ v. v.now) found.items ≡ rests first (map (λ v. v.now) group.now)) }
+    vectors: &'a List<List<Coeff>>,
+) -> Result<Vec<(usize, &'a [Coeff])>, NoMemory>
+    ensures each { IfOk result (λ placed. All (λ p. slice_get vectors.now p.0 ≡ Some p.1.now) placed.items) }
+    ensures all { IfOk result (λ placed. (k : ℕ) → k < length vectors.now → Contains (map (λ p. p.0) placed.items) k) }
 {
-    let mut found = Vec::new(alloc);
-    for vector in group {
-        if let [head, rest @ ..] = vector
-            && head.value() == first.value()
-        {
-            found.push(rest)?;
-        }
-    }
-    Ok(found)
-}
-
-// All of `vectors`, as slices.
-fn slices(alloc: Global, vectors: &List<List<Coeff>>) -> Result<Vec<&[Coeff]>, NoMemory>
-    ensures { IfOk result (λ group. map (λ v. v.now) group.items ≡ vectors.now) }
-{
-    let mut group = Vec::new(alloc);
+    let mut placed = Vec::new(alloc);
     for vector in vectors.as_slice() {
-        group.push(vector.as_slice())?;
+        placed.push((placed.len(), vector.as_slice()))?;
     }
-    Ok(group)
+    Ok(placed)
 }
 
-// `vector` numbered densely among `vectors`.
-fn dense_vector(
+// All of `vectors`, each with its place, in lexicographic order.
+fn sorted_vectors<'a>(
     alloc: Global,
-    vectors: &List<List<Coeff>>,
+    vectors: &'a List<List<Coeff>>,
+) -> Result<Vec<(usize, &'a [Coeff])>, NoMemory>
+    ensures each { IfOk result (λ placed. All (λ p. slice_get vectors.now p.0 ≡ Some p.1.now) placed.items) }
+    ensures all { IfOk result (λ placed. (k : ℕ) → k < length vectors.now → Contains (map (λ p. p.0) placed.items) k) }
+    ensures sorted { IfOk result (λ placed. IsSorted (λ p q. slice_cmp int_cmp p.1.now q.1.now) placed.items) }
+{
+    let mut placed = placed_vectors(alloc, vectors)?;
+    placed.sort_by(|left, right| compare(left.1, right.1))?;
+    Ok(placed)
+}
+
+// `numbers` and then a zero for each entry of `vector`.
+fn with_zeros(numbers: List<u32>, vector: &[Coeff]) -> Result<List<u32>, NoMemory>
+    ensures { IfOk result (λ made. made ≡ numbers ++ map (λ _. 0) vector.now) }
+{
+    let mut made = numbers;
+    for _entry in vector {
+        made.push(0)?;
+    }
+    Ok(made)
+}
+
+// Whether two coefficients are equal.
+fn same(left: Coeff, right: Coeff) -> bool
+    ensures { result ≡ int_eq left right }
+{
+    left.value() == right.value()
+}
+
+// The numbers of `vector`, from those of the greatest vector before it.
+fn next_numbers(
+    alloc: Global,
+    former: &[Coeff],
+    numbers: &[u32],
     vector: &[Coeff],
 ) -> Result<List<u32>, NoMemory>
-    requires { length vectors.now < 2 ^ 32 }
-    ensures { IfOk result (λ made. made ≡ dense_among vectors.now vector.now) }
+    requires { All (λ n. n < 2 ^ 32) (numbered_after former.now numbers.now vector.now) }
+    ensures { IfOk result (λ made. made ≡ numbered_after former.now numbers.now vector.now) }
 {
-    let mut made = List::new(alloc);
-    let mut group = slices(alloc, vectors)?;
-    for entry in vector {
-        let number = count_lesser(alloc, *entry, group.as_slice())?;
-        made.push(number as u32)?;
-        group = matching_rests(alloc, *entry, group.as_slice())?;
+    let mut made = List::with_capacity(alloc, vector.len())?;
+    let mut former = former;
+    let mut numbers = numbers;
+    let mut vector = vector;
+    while let [new, news @ ..] = vector {
+        let [old, olds @ ..] = former else {
+            return with_zeros(made, vector);
+        };
+        let [number, more @ ..] = numbers else {
+            return with_zeros(made, vector);
+        };
+        if !same(*old, *new) {
+            made.push(*number + 1)?;
+            return with_zeros(made, news);
+        }
+        made.push(*number)?;
+        former = olds;
+        numbers = more;
+        vector = news;
+    }
+    Ok(made)
+}
+
+// A copy of `numbers`.
+fn copied(alloc: Global, numbers: &[u32]) -> Result<List<u32>, NoMemory>
+    ensures { IfOk result (λ made. made ≡ numbers.now) }
+{
+    let mut made = List::with_capacity(alloc, numbers.len())?;
+    for number in numbers {
+        made.push(*number)?;
+    }
+    Ok(made)
+}
+
+// A list of `count` empty lists.
+fn empty_lists(alloc: Global, count: usize) -> Result<List<List<u32>>, NoMemory>
+    ensures { IfOk result (λ made. length made ≡ count) }
+{
+    let mut made = List::with_capacity(alloc, count)?;
+    for i in 0..count {
+        made.push(List::new(alloc))?;
     }
     Ok(made)
 }
@@ -99,9 +145,15 @@ pub fn dense_vectors(
     requires { length vectors.now < 2 ^ 32 }
     ensures { IfOk result (λ made. made ≡ dense_of vectors.now) }
 {
-    let mut made = List::new(alloc);
-    for vector in vectors.as_slice() {
-        made.push(dense_vector(alloc, vectors, vector.as_slice())?)?;
+    let placed = sorted_vectors(alloc, vectors)?;
+    let mut made = empty_lists(alloc, vectors.len())?;
+    let mut former: &[Coeff] = &[];
+    let mut numbers = List::new(alloc);
+    for pair in placed.as_slice() {
+        let (place, vector) = *pair;
+        numbers = next_numbers(alloc, former, numbers.as_slice(), vector)?;
+        made.set(place, copied(alloc, numbers.as_slice())?);
+        former = vector;
     }
     Ok(made)
 }
