@@ -18,8 +18,9 @@ use row_core::Row;
 use std::alloc::Global;
 
 /// Decides `system` as `decide_by` does, but the simplex method goes on from where it has ended for the first
-/// rows, and the elimination begins with the reduced rows of these. The system has the base's shape, and its rows begin with the base's. Where this way passes
-/// 2^127 - 1 or 16,384 rows, it falls back to the stated elimination of the whole system.
+/// rows, and the elimination begins with the reduced rows of these. The system has the base's shape, and its
+/// rows begin with the base's. Where this way passes 2^127 - 1 or 16,384 rows, it falls back to the stated
+/// elimination of the whole system.
 pub fn decide_with<R: Row>(
     alloc: Global,
     shared: &Reduced<R>,

@@ -1,4 +1,4 @@
-//! The numbers of variables and rows of a system.
+//! The numbers of variables and rows of a system, and of entries of a row.
 
 ghost use Rattle.std.specs.Prelude.{◌≡◌, ◌<◌, ◌≤◌, ◌+◌, ◌^◌, length};
 ghost use Rattle.relation_core.specs.Systems.{columns};
@@ -6,6 +6,7 @@ ghost use Rattle.elim_core.specs.Elimination.{started};
 ghost use Rattle.elim_core.specs.RowLists.{AllRows, Wide};
 
 use relation_core::Part;
+use row_core::Row;
 
 /// The number of variables.
 pub fn variable_count(system: &Part) -> usize
@@ -25,4 +26,17 @@ pub fn row_count(system: &Part) -> usize
 {
     let _form = system.row_count();
     system.rows().len()
+}
+
+/// The number of entries that are not 0.
+pub fn entry_count<R: Row>(row: &R) -> usize
+    ensures { result ≤ length (R.coefficients row.now) }
+{
+    let mut count = 0;
+    let mut k = row.next_place(0, row.len());
+    while k < row.len() {
+        count += 1;
+        k = row.next_place(k + 1, row.len());
+    }
+    count
 }

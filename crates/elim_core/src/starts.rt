@@ -1,16 +1,16 @@
 //! The working rows with which the elimination begins: each row of the system with the multiplier 1
 //! at its own place.
 
-ghost use Rattle.std.specs.Prelude.{◌≡◌, ◌<◌, ◌≤◌, ◌+◌, ◌-◌, ◌++◌, ◌∷◌, [], pos, drop, replicate, length, IfOk, OnOk};
+ghost use Rattle.std.specs.Prelude.{◌≡◌, ◌<◌, ◌≤◌, ◌+◌, ◌^◌, ◌++◌, drop, length, IfOk, OnOk};
 ghost use Rattle.relation_core.specs.Systems.{row_at};
 ghost use Rattle.elim_core.specs.Elimination.{unit, started_from};
 ghost use Rattle.elim_core.specs.Tableaux.{starting};
 
-use crate::counts::{row_count, variable_count};
+use crate::counts::{entry_count, row_count, variable_count};
 use crate::tableaux::Tableau;
 use crate::working_rows::WorkingRow;
 use relation_core::Part;
-use row_core::{Coeff, Row};
+use row_core::{Coeff, DenseRow, Row};
 use std::alloc::Global;
 use suite_base::NoMemory;
 
@@ -36,50 +36,36 @@ pub fn start_from<R: Row>(
     ensures { OnOk result (rows.new.items ≡ rows.old.items ++ started_from (length system.now.rows) first (drop first system.now.rows)) }
 {
     for i in first..system.row_count() {
-        let cells = starting_cells(alloc, system, i)?;
-        let row = R::from_coeffs(alloc, cells.as_slice())?;
+        let row = starting_row(alloc, system, i)?;
         rows.push(WorkingRow::new(system.kind(i), row))?;
     }
     Ok(())
 }
 
-// The entries of row `i`, and behind them its multipliers.
-fn starting_cells(alloc: Global, system: &Part, i: usize) -> Result<Vec<Coeff>, NoMemory>
+// The entries of row `i`, and behind them its multipliers, which are 0 but for a 1 at its own place.
+fn starting_row<R: Row>(alloc: Global, system: &Part, i: usize) -> Result<R, NoMemory>
     requires { i < length system.now.rows }
-    ensures { IfOk result (λ cells. cells.items ≡ (row_at system.now.rows i).entries ++ unit i (length system.now.rows)) }
+    ensures { IfOk result (λ row. R.coefficients row ≡ (row_at system.now.rows i).entries ++ unit i (length system.now.rows)) }
 {
-    let mut cells = row_entries(alloc, system, i, system.row_count())?;
-    push_unit(&mut cells, i, system.row_count())?;
-    Ok(cells)
+    let _variables = variable_count(system);
+    let _form = system.row_count();
+    let count = row_count(system);
+    let entries = &system.rows()[i].entries;
+    let mut row = R::with_capacity(alloc, entry_count(entries).saturating_add(1))?;
+    push_entries(entries, &mut row)?;
+    row.push_zeros(i)?;
+    row.push(Coeff::ONE)?;
+    row.push_zeros(count - i - 1)?;
+    Ok(row)
 }
 
-// The entries of row `i`, with room for `spare` more.
-fn row_entries(alloc: Global, system: &Part, i: usize, spare: usize) -> Result<Vec<Coeff>, NoMemory>
-    requires { i < length system.now.rows }
-    ensures { IfOk result (λ cells. cells.items ≡ (row_at system.now.rows i).entries) }
+// Appends all entries of a row.
+fn push_entries<R: Row>(entries: &DenseRow, row: &mut R) -> Result<(), NoMemory>
+    requires { length (R.coefficients row.old) + length entries.now < 2 ^ 64 }
+    ensures { OnOk result (R.coefficients row.new ≡ R.coefficients row.old ++ entries.now) }
 {
-    let row = &system.rows()[i];
-    let mut cells = Vec::with_capacity(alloc, row.entries.len().saturating_add(spare))?;
-    cells.extend_from_slice(row.entries.as_slice())?;
-    Ok(cells)
-}
-
-// Appends `count` multipliers, which are 0 but for a 1 at place `i`.
-fn push_unit(cells: &mut Vec<Coeff>, i: usize, count: usize) -> Result<(), NoMemory>
-    requires { i < count }
-    ensures { OnOk result (cells.new.items ≡ cells.old.items ++ unit i count) }
-{
-    push_zeros(cells, i)?;
-    cells.push(Coeff::ONE)?;
-    push_zeros(cells, count - i - 1)
-}
-
-/// Appends zeros.
-pub fn push_zeros(cells: &mut Vec<Coeff>, count: usize) -> Result<(), NoMemory>
-    ensures { OnOk result (cells.new.items ≡ cells.old.items ++ replicate count (pos 0)) }
-{
-    for _ in 0..count {
-        cells.push(Coeff::ZERO)?;
+    for k in 0..entries.len() {
+        row.push(entries.get(k))?;
     }
     Ok(())
 }

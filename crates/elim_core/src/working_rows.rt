@@ -8,7 +8,6 @@ ghost use Rattle.elim_core.specs.Elimination.{is_equal, is_constant, is_contradi
 
 use crate::division::divided;
 use crate::signs::{is_negative, is_zero};
-use crate::starts::push_zeros;
 use crate::verdicts::{ElimFail, failed};
 use relation_core::RowKind;
 use row_core::{Coeff, Row};
@@ -81,9 +80,11 @@ impl<R: Row> WorkingRow<R> {
     pub fn widened(&self, alloc: Global, count: usize) -> Result<WorkingRow<R>, NoMemory>
         ensures { IfOk result (λ w. w ≡ record { kind = self.now.kind; entries = self.now.entries ++ replicate count (pos 0) }) }
     {
-        let mut cells = cells_of(alloc, &self.row, count)?;
-        push_zeros(&mut cells, count)?;
-        let row = R::from_coeffs(alloc, cells.as_slice())?;
+        if count > usize::MAX - self.row.len() {
+            return Err(NoMemory);
+        }
+        let mut row = self.row.copy(alloc)?;
+        row.push_zeros(count)?;
         Ok(WorkingRow {
             kind: self.kind,
             row,
@@ -112,17 +113,6 @@ impl<R: Row> WorkingRow<R> {
             }
         }
     }
-}
-
-// The entries of a row, with room for `spare` more.
-fn cells_of<R: Row>(alloc: Global, row: &R, spare: usize) -> Result<Vec<Coeff>, NoMemory>
-    ensures { IfOk result (λ cells. cells.items ≡ R.coefficients row.now) }
-{
-    let mut cells = Vec::with_capacity(alloc, row.len().saturating_add(spare))?;
-    for k in 0..row.len() {
-        cells.push(row.get(k))?;
-    }
-    Ok(cells)
 }
 
 /// Whether the first `n` entries are 0.
