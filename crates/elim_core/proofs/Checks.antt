@@ -62,9 +62,12 @@ lowest_terms : divided (pos 4 ∷ (negsuc 5 ∷ (pos 0 ∷ []))) ≡ pos 2 ∷ (
 unfolding gcd gcd_within
 lowest_terms = refl
 
--- the constant does not matter for a key, the sign of a coefficient does
-keys : key 2 (record { kind = AtLeast; entries = pos 1 ∷ (negsuc 1 ∷ (pos 9 ∷ [])) }) ≡ 39
+-- the constant does not matter for a key, the place and the sign of a coefficient do
+keys : key 2 (record { kind = AtLeast; entries = pos 1 ∷ (negsuc 1 ∷ (pos 9 ∷ [])) }) ≡ 1556
 keys = refl
+
+keys_with_zero : key 3 (record { kind = AtLeast; entries = pos 1 ∷ (pos 0 ∷ (negsuc 1 ∷ (pos 9 ∷ []))) }) ≡ 1593
+keys_with_zero = refl
 
 half_begins : BeginsWith half (record half { rows = [] })
 half_begins = record { shape = refl; rows = refl }

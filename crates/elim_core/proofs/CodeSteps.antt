@@ -29,7 +29,7 @@ same_cells_test (suc n) (x ∷ a) (y ∷ b) la lb h =
     both_of_cond (is_zero (x -ℤ y)) (same_cells (take n a) (take n b)) (same_test x y (h 0 (omega arith)))
     (same_cells_test n a b (omega arith) (omega arith) (λ i l. h (suc i) (omega arith)))
 
-entry_take : (n : ℕ) (a : List ℤ) (k : ℕ) → k < n → entry (take n a) k ≡ entry a k
+pub entry_take : (n : ℕ) (a : List ℤ) (k : ℕ) → k < n → entry (take n a) k ≡ entry a k
 entry_take zero a k l = absurd (omega arith)
 entry_take (suc n) [] k l = refl
 entry_take (suc n) (x ∷ a) zero l = refl

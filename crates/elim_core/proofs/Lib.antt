@@ -12,6 +12,7 @@ pub mod Started
 pub mod Lengths
 pub mod Whole
 pub mod CodeSteps
+pub mod Entries
 pub mod Widths
 pub mod Leads
 pub mod ColumnOrder

@@ -66,7 +66,7 @@ pub partner_leads : (n : ℕ) (rows : List PartRow) (marks : List Bool) (at : �
 partner_leads n rows marks at w own i x o m = elim (by_bool (get_or marks i false)) [
   | inl s ↦
       let a = alike_is n (row_at rows i) w (rw s at m) in
-      let e : key n (row_at rows i) ≡ own = ap (key_onto 0) a.same ∙ sym o in
+      let e : key n (row_at rows i) ≡ own = ap (key_onto 0 0) a.same ∙ sym o in
       subst (λ q. LeadsTo (at q) i) e (x.leads i s a.left)
   | inr s ↦ let f : false ≡ true = rw s at m in cc
 ]

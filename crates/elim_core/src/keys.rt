@@ -13,18 +13,21 @@ pub fn key<R: Row>(n: usize, w: &WorkingRow<R>) -> u128
     ensures { result ≡ key n w.now }
 {
     let mut key = 0;
-    for k in 0..n {
-        key = mixed(key, w.entry(k));
+    let mut k = w.next_place(0, n);
+    while k < n {
+        key = mixed(key, k, w.entry(k));
+        k = w.next_place(k + 1, n);
     }
     key
 }
 
-// A key and one coefficient more.
-fn mixed(key: u128, c: Coeff) -> u128
+// A key and one entry more, at place `k`.
+fn mixed(key: u128, k: usize, c: Coeff) -> u128
     requires { key < 2 ^ 64 }
-    ensures value { result ≡ mixed key c }
+    ensures value { result ≡ mixed key k c }
     ensures range { result < 2 ^ 64 }
 {
     let factor = if is_negative(c) { 37 } else { 31 };
-    (key * factor + c.value().unsigned_abs() % (1 << 64)) % (1 << 64)
+    let placed = key * 41 + k as u128;
+    (placed * factor + c.value().unsigned_abs() % (1 << 64)) % (1 << 64)
 }

@@ -161,10 +161,19 @@ fn have_same_variables<R: Row>(n: usize, a: &WorkingRow<R>, b: &WorkingRow<R>) -
     requires right { n ≤ length b.now.entries }
     ensures { result ≡ same_cells (take n a.now.entries) (take n b.now.entries) }
 {
-    for k in 0..n {
+    let mut start = 0;
+    while start < n {
+        let k = a.next_place(start, n);
+        if k != b.next_place(start, n) {
+            return false;
+        }
+        if k == n {
+            return true;
+        }
         if !are_equal(a.entry(k), b.entry(k)) {
             return false;
         }
+        start = k + 1;
     }
     true
 }

@@ -1,7 +1,7 @@
 //! A working row of the elimination: the entries of a row, its constant, and behind them one
 //! multiplier for each row of the system.
 
-ghost use Rattle.std.specs.Prelude.{◌≡◌, ◌<◌, ◌≤◌, ◌+◌, ◌++◌, ◌^◌, pos, length, replicate, take, true, IfOk, IfErr, OnOk, IsTrue};
+ghost use Rattle.std.specs.Prelude.{◌≡◌, ◌<◌, ◌≤◌, ◌+◌, ◌++◌, ◌^◌, ℕ, pos, length, replicate, take, true, IfOk, IfErr, OnOk, IsTrue};
 ghost use Rattle.row_core.specs.Rows.{entry, combined, combined_weight};
 ghost use Rattle.elim_core.specs.Gcd.{divided};
 ghost use Rattle.elim_core.specs.Elimination.{is_equal, is_constant, is_contradiction, fails, last_variable};
@@ -65,6 +65,18 @@ impl<R: Row> WorkingRow<R> {
         self.row.get(k)
     }
 
+    /// The first place from `start` on whose entry isn't 0; `end` where there is none before it.
+    pub fn next_place(&self, start: usize, end: usize) -> usize
+        requires range { start ≤ end }
+        requires within { end ≤ length self.now.entries }
+        ensures from { start ≤ result }
+        ensures to { result ≤ end }
+        ensures zeros { (k : ℕ) → start ≤ k → k < result → entry self.now.entries k ≡ pos 0 }
+        ensures found { result < end → ¬ (entry self.now.entries result ≡ pos 0) }
+    {
+        self.row.next_place(start, end)
+    }
+
     /// A copy of the row.
     pub fn copy(&self, alloc: Global) -> Result<WorkingRow<R>, NoMemory>
         ensures { IfOk result (λ w. w ≡ self.now) }
@@ -120,12 +132,7 @@ pub fn is_constant<R: Row>(w: &WorkingRow<R>, n: usize) -> bool
     requires { n ≤ length w.now.entries }
     ensures { result ≡ is_constant n w.now }
 {
-    for k in 0..n {
-        if !is_zero(w.entry(k)) {
-            return false;
-        }
-    }
-    true
+    w.next_place(0, n) == n
 }
 
 /// Whether the row has no variable and its constant fails.
@@ -156,12 +163,11 @@ pub fn last_variable<R: Row>(w: &WorkingRow<R>, n: usize) -> usize
     ensures value { result ≡ last_variable n w.now.entries }
     ensures range { result ≤ n }
 {
-    let mut k = n;
-    while k > 0 {
-        k -= 1;
-        if !is_zero(w.entry(k)) {
-            return k;
-        }
+    let mut last = 0;
+    let mut k = w.next_place(0, n);
+    while k < n {
+        last = k;
+        k = w.next_place(k + 1, n);
     }
-    0
+    last
 }
