@@ -1,7 +1,7 @@
 -- A valid certificate leaves no rational point: the combination of the rows would have to be both
 -- nonnegative and negative there.
-use Rattle.std.proofs.Common.{◌≡◌, refl, ap, sym, subst, ◌∙◌, ℕ, zero, suc, ◌<◌, List, [], ◌∷◌, ◌++◌, length, arith}
-use Rattle.std.specs.Prelude.{Bool, Result, Ok, Err, IsTrue, IfOk, MatchResult, ◌↔◌, ℤ, pos, ◌+ℤ◌, ◌*ℤ◌, neg_ℤ, ◌≤ℤ◌, ◌<ℤ◌}
+use Rattle.std.proofs.Common.{◌≡◌, refl, ap, sym, subst, ◌∙◌, ℕ, zero, suc, ◌<◌, List, [], ◌∷◌, ◌++◌, length, drop, get_or, ◌+◌, arith}
+use Rattle.std.specs.Prelude.{Bool, Result, Ok, Err, IsTrue, IfOk, MatchResult, ◌↔◌, ℤ, pos, ◌+ℤ◌, ◌*ℤ◌, neg_ℤ, unsigned_abs, ◌≤ℤ◌, ◌<ℤ◌}
 use Rattle.std.proofs.lemmas.Int.{ints}
 use Rattle.row_core.proofs.Ring.{neg_mul_z, mul_nonneg_z, mul_pos_z}
 use Rattle.row_core.proofs.Rows.{dot_add, dot_scale}
@@ -9,8 +9,8 @@ use Rattle.row_core.specs.Rows.{dot, add_rows, scale, entry}
 use Rattle.relation_core.specs.declared.part_rows.PartRow.{PartRow}
 use Rattle.relation_core.specs.declared.part_rows.RowKind.{RowKind}
 use Rattle.relation_core.specs.declared.part_rows.RowKind.TheVariants.{Equal, AtLeast}
-use Rattle.relation_core.specs.Points.{Meets, MeetsAll, RationalPoint, combination, column}
-use Rattle.farkas_cert.specs.Certificates.{AllowedOne, Allowed, Valid, HasNoPoint, ValidMeansEmpty}
+use Rattle.relation_core.specs.Points.{Meets, MeetsAll, RationalPoint, combination, column, column_weight}
+use Rattle.farkas_cert.specs.Certificates.{AllowedOne, Allowed, Valid, HasNoPoint, ValidMeansEmpty, BeginsAt}
 
 pub entry_add : (a b : List ℤ) (k : ℕ) → entry (add_rows a b) k ≡ entry a k +ℤ entry b k
 entry_add [] b k = omega (arith, ints)
@@ -84,3 +84,39 @@ pub meaning_of : {E : Type 0} (answer : Result Bool E) (n : ℕ) (rows : List Pa
     → MatchResult answer (λ valid. IsTrue valid ↔ Valid n rows ls) P → IfOk answer (λ valid. IsTrue valid → HasNoPoint n rows)
 meaning_of (Ok valid) n rows ls P m = λ t. valid_law n rows ls (m.0 t)
 meaning_of (Err e) n rows ls P m = tt
+
+column_empty : (ls : List ℤ) (k : ℕ) → column ls [] k ≡ pos 0
+column_empty [] k = refl
+column_empty (z ∷ ls) k = refl
+
+weight_empty : (ls : List ℤ) (k : ℕ) → column_weight ls [] k ≡ 0
+weight_empty [] k = refl
+weight_empty (z ∷ ls) k = refl
+
+-- a multiplier that is 0 adds nothing to a column
+column_past : (ls : List ℤ) (rows : List PartRow) (k i : ℕ) → i < length ls → entry ls i ≡ pos 0
+    → column (drop (suc i) ls) (drop (suc i) rows) k ≡ column (drop i ls) (drop i rows) k
+column_past [] rows k i l e = absurd (omega arith)
+column_past (z ∷ ls) [] k zero l e = column_empty ls k
+column_past (z ∷ ls) [] k (suc i) l e = column_empty (drop (suc i) ls) k ∙ sym (column_empty (drop i ls) k)
+column_past (z ∷ ls) (row ∷ rows) k zero l e = omega (arith, ints, ap (λ n. n *ℤ entry row.entries k) e)
+column_past (z ∷ ls) (row ∷ rows) k (suc i) l e = column_past ls rows k i (omega arith) e
+
+weight_past : (ls : List ℤ) (rows : List PartRow) (k i : ℕ) → i < length ls → entry ls i ≡ pos 0
+    → column_weight (drop (suc i) ls) (drop (suc i) rows) k ≡ column_weight (drop i ls) (drop i rows) k
+weight_past [] rows k i l e = absurd (omega arith)
+weight_past (z ∷ ls) [] k zero l e = weight_empty ls k
+weight_past (z ∷ ls) [] k (suc i) l e = weight_empty (drop (suc i) ls) k ∙ sym (weight_empty (drop i ls) k)
+weight_past (z ∷ ls) (row ∷ rows) k zero l e = omega (arith, ints, ap (λ n. unsigned_abs (n *ℤ entry row.entries k)) e)
+weight_past (z ∷ ls) (row ∷ rows) k (suc i) l e = weight_past ls rows k i (omega arith) e
+
+-- a multiplier that is 0 does not matter
+pub begins_past : (ls : List ℤ) (i : ℕ) (x : ℤ) → BeginsAt ls i → i < length ls → x ≡ get_or ls i x → x ≡ pos 0 → BeginsAt ls (i + 1)
+begins_past ls i x b l r z =
+    let e : entry ls i ≡ pos 0 = sym (rw z at r) in
+    let f : i + 1 ≡ suc i = omega arith in
+    rw f (record {
+      within = omega arith;
+      value = λ rows k. column_past ls rows k i l e ∙ b.value rows k;
+      weight = λ rows k. weight_past ls rows k i l e ∙ b.weight rows k;
+    })

@@ -1,6 +1,6 @@
 -- Farkas certificates: when a list of multipliers is valid for a system of n columns, what that
 -- means, and when its check is too heavy for 128 bits.
-use Rattle.std.specs.Prelude.{ℤ, pos, ◌≤ℤ◌, ◌<ℤ◌, ℕ, ◌+◌, ◌^◌, ◌≤◌, ◌<◌, ◌≡◌, List, [], ◌∷◌, length}
+use Rattle.std.specs.Prelude.{ℤ, pos, ◌≤ℤ◌, ◌<ℤ◌, ℕ, ◌+◌, ◌^◌, ◌≤◌, ◌<◌, ◌≡◌, List, [], ◌∷◌, length, drop}
 use Rattle.relation_core.specs.declared.part_rows.PartRow.{PartRow}
 use Rattle.relation_core.specs.declared.part_rows.RowKind.{RowKind}
 use Rattle.relation_core.specs.declared.part_rows.RowKind.TheVariants.{Equal, AtLeast}
@@ -50,3 +50,9 @@ pub record IsTooHeavy (n : ℕ) (rows : List PartRow) (multipliers : List ℤ) :
 -- each of the first w columns has absolute products that sum to at most 2^127 - 1
 abbrev pub IsLight : ℕ → List PartRow → List ℤ → Type 0
 IsLight w rows multipliers = (k : ℕ) → k < w → column_weight multipliers rows k < 2 ^ 127
+
+-- the multipliers before place i matter to no column: they are 0
+pub record BeginsAt (multipliers : List ℤ) (i : ℕ) : Type 0 where
+  pub within : i ≤ length multipliers
+  pub value : (rows : List PartRow) (k : ℕ) → column (drop i multipliers) (drop i rows) k ≡ column multipliers rows k
+  pub weight : (rows : List PartRow) (k : ℕ) → column_weight (drop i multipliers) (drop i rows) k ≡ column_weight multipliers rows k

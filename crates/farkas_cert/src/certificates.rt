@@ -1,6 +1,6 @@
 //! A certificate: one multiplier for each row of a system.
 
-ghost use Rattle.std.specs.Prelude.{◌≡◌, [], ◌∷◌, ◌++◌, ◌<◌, length, slice_get, OnOk, OnErr, OnSome};
+ghost use Rattle.std.specs.Prelude.{◌≡◌, [], ◌∷◌, ◌++◌, ◌<◌, pos, length, replicate, slice_get, slice_set, IfOk, OnOk, OnErr, OnSome};
 ghost use Rattle.std.specs.Option.{option_copied};
 
 use row_core::Coeff;
@@ -32,6 +32,17 @@ impl Certificate {
         }
     }
 
+    /// The certificate of `count` multipliers that are 0.
+    pub fn zeros(alloc: Global, count: usize) -> Result<Certificate, NoMemory>
+        ensures { IfOk result (λ certificate. certificate ≡ replicate count (pos 0)) }
+    {
+        let mut multipliers = List::with_capacity(alloc, count)?;
+        for _ in 0..count {
+            multipliers.push(Coeff::ZERO)?;
+        }
+        Ok(Certificate { multipliers })
+    }
+
     /// The allocator that the certificate keeps.
     pub fn allocator(&self) -> Global {
         self.multipliers.allocator()
@@ -43,6 +54,14 @@ impl Certificate {
         ensures err { OnErr result (self.new ≡ self.old) }
     {
         self.multipliers.push(multiplier)
+    }
+
+    /// Puts a multiplier at place `k`, from 0, which is below the length.
+    pub fn set(&mut self, k: usize, multiplier: Coeff)
+        requires { k < length self.old }
+        ensures { self.new ≡ slice_set self.old k multiplier }
+    {
+        let _old = self.multipliers.set(k, multiplier);
     }
 
     /// The multiplier at place `k`, from 0; `None` exactly where `k` is not below the length.

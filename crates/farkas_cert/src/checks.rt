@@ -7,7 +7,7 @@
 ghost use Rattle.std.specs.Prelude.{◌≡◌, ◌<◌, ◌≤◌, ◌+◌, ◌^◌, ◌↔◌, pos, ◌<ℤ◌, length, IsTrue, IfOk, MatchOption, MatchResult};
 ghost use Rattle.relation_core.specs.Systems.{columns, width};
 ghost use Rattle.relation_core.specs.Points.{column, column_weight};
-ghost use Rattle.farkas_cert.specs.Certificates.{AllowedOne, Allowed, Cleared, Valid, ValidMeansEmpty, HasNoPoint, HasHeavyColumn, IsTooHeavy, IsLight};
+ghost use Rattle.farkas_cert.specs.Certificates.{AllowedOne, Allowed, Cleared, Valid, ValidMeansEmpty, HasNoPoint, HasHeavyColumn, IsTooHeavy, IsLight, BeginsAt};
 
 use crate::certificates::Certificate;
 use crate::products::with_product;
@@ -49,48 +49,65 @@ fn is_valid(system: &Part, multipliers: &[Coeff]) -> Result<bool, TooHeavy>
         (λ _. IsTooHeavy (columns system.now.shape) system.now.rows multipliers.now) }
     ensures light { IfOk result (λ _. ¬ IsTooHeavy (columns system.now.shape) system.now.rows multipliers.now) }
 {
-    match contradicts(system, multipliers) {
+    let first = first_factor(multipliers);
+    match contradicts(system, multipliers, first) {
         None => Err(TooHeavy),
         Some(contradiction) => Ok(contradiction & is_allowed(system, multipliers)),
     }
 }
 
-// Whether the combination has no variable and a negative constant; `None` where it is too heavy.
-fn contradicts(system: &Part, multipliers: &[Coeff]) -> Option<bool>
-    requires { length multipliers.now ≡ length system.now.rows }
+// The place of the first multiplier that is not 0; the number of multipliers where there is none.
+fn first_factor(multipliers: &[Coeff]) -> usize
+    ensures { BeginsAt multipliers.now result }
+{
+    for i in 0..multipliers.len() {
+        if !multipliers[i].is_zero() {
+            return i;
+        }
+    }
+    multipliers.len()
+}
+
+// Whether the combination has no variable and a negative constant; `None` where it is too heavy. The
+// multipliers before place `first` are 0.
+fn contradicts(system: &Part, multipliers: &[Coeff], first: usize) -> Option<bool>
+    requires lengths { length multipliers.now ≡ length system.now.rows }
+    requires begins { BeginsAt multipliers.now first }
     ensures { MatchOption result (HasHeavyColumn (width system.now.shape) system.now.rows multipliers.now)
         (λ yes. (IsTrue yes ↔ (Cleared (columns system.now.shape) system.now.rows multipliers.now × (column multipliers.now system.now.rows (columns system.now.shape) <ℤ pos 0))) × IsLight (width system.now.shape) system.now.rows multipliers.now) }
 {
     let constant = system.width() - 1;
-    let cleared = clears(system, multipliers, constant)?;
-    let sum = column_sum(system, multipliers, constant)?;
+    let cleared = clears(system, multipliers, first, constant)?;
+    let sum = column_sum(system, multipliers, first, constant)?;
     Some(cleared & (sum.value().value() < 0))
 }
 
 // Whether the first `count` columns of the combination are 0; `None` where one is too heavy.
-fn clears(system: &Part, multipliers: &[Coeff], count: usize) -> Option<bool>
+fn clears(system: &Part, multipliers: &[Coeff], first: usize, count: usize) -> Option<bool>
     requires lengths { length multipliers.now ≡ length system.now.rows }
+    requires begins { BeginsAt multipliers.now first }
     requires columns { count < width system.now.shape }
     ensures { MatchOption result (HasHeavyColumn count system.now.rows multipliers.now)
         (λ yes. (IsTrue yes ↔ Cleared count system.now.rows multipliers.now) × IsLight count system.now.rows multipliers.now) }
 {
     let mut cleared = true;
     for k in 0..count {
-        let sum = column_sum(system, multipliers, k)?;
+        let sum = column_sum(system, multipliers, first, k)?;
         cleared = cleared & (sum.value().value() == 0);
     }
     Some(cleared)
 }
 
 // Column `k` of the combination; `None` exactly where it is too heavy.
-fn column_sum(system: &Part, multipliers: &[Coeff], k: usize) -> Option<Sum>
+fn column_sum(system: &Part, multipliers: &[Coeff], first: usize, k: usize) -> Option<Sum>
     requires lengths { length multipliers.now ≡ length system.now.rows }
+    requires begins { BeginsAt multipliers.now first }
     requires column { k < width system.now.shape }
     ensures { MatchOption result (2 ^ 127 ≤ column_weight multipliers.now system.now.rows k)
         (λ sum. (sum.value ≡ column multipliers.now system.now.rows k) × (column_weight multipliers.now system.now.rows k < 2 ^ 127)) }
 {
     let mut sum = Sum::zero();
-    for i in 0..multipliers.len() {
+    for i in first..multipliers.len() {
         sum = with_product(sum, multipliers[i], system.entry(i, k))?;
     }
     Some(sum)

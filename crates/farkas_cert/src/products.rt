@@ -4,12 +4,12 @@ ghost use Rattle.std.specs.Prelude.{◌≡◌, ◌<◌, ◌≤◌, ◌+◌, ◌^
 
 use row_core::{Coeff, Sum};
 
-/// The sum with the product of `c` and `x` added, as `Sum::add` has it; nothing is to be done where `c` is 0.
+/// The sum with the product of `c` and `x` added, as `Sum::add` has it; nothing is to be done where one of them is 0.
 pub fn with_product(sum: Sum, c: Coeff, x: Coeff) -> Option<Sum>
     ensures { MatchOption result (2 ^ 127 ≤ sum.weight + unsigned_abs (c *ℤ x))
         (λ s. (s.value ≡ sum.value +ℤ (c *ℤ x)) × (s.weight ≡ sum.weight + unsigned_abs (c *ℤ x)) × (s.weight < 2 ^ 127)) }
 {
-    if c.is_zero() {
+    if c.is_zero() || x.is_zero() {
         return Some(sum);
     }
     sum.add(c, x)
