@@ -8,12 +8,14 @@
 //! columns, then free variables become rows, and then by Bland's rule each inequality whose value is
 //! negative becomes a column. Where no column can raise it, the row itself is the contradiction: its cells
 //! are the multipliers of the system's rows. Systems that begin alike are searched from a warm start: their
-//! further rows join the tableau at which the search over their common rows has ended.
+//! further rows join the tableau at which the search over their common rows has ended, but for those that hold
+//! wherever the columns are as they may be; one that holds nowhere there ends the search at once.
 //!
 //! Nothing of this is proved but that it ends safely, so whoever calls it checks what it has found.
 #![tactic(auto)]
 
 mod divisors;
+mod further_rows;
 mod matrices;
 mod pivots;
 mod searches;

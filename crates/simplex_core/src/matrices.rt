@@ -1,6 +1,6 @@
 //! A matrix of 64-bit cells.
 
-ghost use Rattle.std.specs.Prelude.{◌≡◌, ◌<◌, IfOk, IfSome, ◌+◌, length};
+ghost use Rattle.std.specs.Prelude.{◌≡◌, ◌<◌, ◌≤◌, ◌+◌, IfOk, IfSome, length};
 
 use crate::divisors::{gcd_wide, quotient, sum_of_products};
 use std::alloc::Global;
@@ -82,6 +82,14 @@ impl Matrix {
         self.cells[i * self.columns + j]
     }
 
+    /// The cells of row `i`.
+    pub fn row(&self, i: usize) -> &[i64]
+        requires { i < self.now.rows }
+    {
+        let start = i * self.columns;
+        &self.cells.as_slice()[start..start + self.columns]
+    }
+
     /// Puts `value` into row `i` and column `j`.
     pub fn set(&mut self, i: usize, j: usize, value: i64)
         requires row { i < self.old.rows }
@@ -89,6 +97,32 @@ impl Matrix {
         ensures { self.new ≡ self.old }
     {
         self.cells[i * self.columns + j] = value;
+    }
+
+    /// Makes the cells of row `i` zeros.
+    pub fn clear(&mut self, i: usize)
+        requires { i < self.old.rows }
+        ensures { self.new ≡ self.old }
+    {
+        for j in 0..self.columns() {
+            self.set(i, j, 0);
+        }
+    }
+
+    /// The first `count` rows, where there are as many.
+    pub fn first_rows(self, count: usize) -> Matrix
+        ensures rows { count ≤ self.rows → result ≡ record { rows = count; columns = self.columns } }
+    {
+        if count > self.rows {
+            return self;
+        }
+        let mut cells = self.cells;
+        cells.truncate(count * self.columns);
+        Matrix {
+            rows: count,
+            columns: self.columns,
+            cells,
+        }
     }
 
     /// Turns the signs of the first `count` cells of row `i`; `None` where one has no negative.

@@ -18,25 +18,26 @@ pub enum End {
 const MOST_PIVOTS: usize = 10_000;
 
 /// Pivots until the tableau shows a point or a contradiction; `None` where a cell passes 64 bits or
-/// the pivots are too many.
-pub fn solve(tableau: &mut Tableau) -> Option<End>
+/// the pivots are too many. Before row `first` no equality is left that can become a column, and no free
+/// variable that can become a row.
+pub fn solve(tableau: &mut Tableau, first: usize) -> Option<End>
     ensures size { tableau.new ≡ tableau.old }
     ensures row { IfSome result (IsAmong tableau.old.rows) }
 {
-    match substitute_equalities(tableau)? {
+    match substitute_equalities(tableau, first)? {
         End::Contradiction(r) => return Some(End::Contradiction(r)),
         End::Solved => {}
     }
-    free_variables(tableau)?;
+    free_variables(tableau, first)?;
     raise_all(tableau)
 }
 
-// Makes each equality a column. One that has no other variable left must be 0 already.
-fn substitute_equalities(tableau: &mut Tableau) -> Option<End>
+// Makes each equality from row `first` on a column. One that has no other variable left must be 0 already.
+fn substitute_equalities(tableau: &mut Tableau, first: usize) -> Option<End>
     ensures size { tableau.new ≡ tableau.old }
     ensures row { IfSome result (IsAmong tableau.old.rows) }
 {
-    for i in 0..tableau.row_count() {
+    for i in first..tableau.row_count() {
         if is_equality(tableau, i) {
             match open_column(tableau, i) {
                 Some(c) => tableau.pivot(i, c)?,
@@ -58,11 +59,11 @@ fn is_equality(tableau: &Tableau, i: usize) -> bool
     tableau.row_variable(i).range() == Range::Zero
 }
 
-// Makes each free variable a row.
-fn free_variables(tableau: &mut Tableau) -> Option<()>
+// Makes free variables rows, in place of the inequalities from row `first` on.
+fn free_variables(tableau: &mut Tableau, first: usize) -> Option<()>
     ensures { tableau.new ≡ tableau.old }
 {
-    for i in 0..tableau.row_count() {
+    for i in first..tableau.row_count() {
         if let Variable::AtLeastZero(_) = tableau.row_variable(i) {
             if let Some(c) = least_column(tableau, i, Range::Free) {
                 tableau.pivot(i, c)?;

@@ -29,32 +29,46 @@ pub fn search(alloc: Global, system: &Part) -> Result<Candidate, NoMemory> {
     let Some(mut tableau) = start(alloc, system)? else {
         return Ok(Candidate::Nothing);
     };
-    search_over(alloc, &mut tableau)
+    search_over(alloc, &mut tableau, 0, system.row_count())
 }
 
-/// Pivots until the tableau shows a point or a contradiction, and answers that.
-pub fn search_over(alloc: Global, tableau: &mut Tableau) -> Result<Candidate, NoMemory> {
-    match solve(tableau) {
+/// Pivots until the tableau shows a point or a contradiction of a system of `count` rows, and answers that.
+/// The rows before row `first` are solved.
+pub fn search_over(
+    alloc: Global,
+    tableau: &mut Tableau,
+    first: usize,
+    count: usize,
+) -> Result<Candidate, NoMemory> {
+    match solve(tableau, first) {
         None => Ok(Candidate::Nothing),
         Some(End::Solved) => point(alloc, tableau),
-        Some(End::Contradiction(r)) => refutation(alloc, tableau, r, tableau.row_count()),
+        Some(End::Contradiction(r)) => refutation(alloc, tableau, r, count),
     }
 }
 
-// The values of the system's variables.
-fn point(alloc: Global, tableau: &Tableau) -> Result<Candidate, NoMemory> {
+/// The values of the system's variables, where no inequality is negative.
+pub fn point(alloc: Global, tableau: &Tableau) -> Result<Candidate, NoMemory> {
     let Some(common) = common_denominator(tableau) else {
         return Ok(Candidate::Nothing);
     };
-    let mut point = vec![in alloc; Coeff::ZERO; tableau.column_count()]?;
-    if fill_point(point.as_mut_slice(), tableau, common).is_none() {
-        return Ok(Candidate::Nothing);
-    }
     let Some(denominator) = Coeff::new(common) else {
         return Ok(Candidate::Nothing);
     };
-    point.push(denominator)?;
+    let n = tableau.column_count();
+    let mut point = vec![in alloc; denominator; n.saturating_add(1)]?;
+    fill_zeros(point.as_mut_slice(), n);
+    if fill_point(point.as_mut_slice(), tableau, common).is_none() {
+        return Ok(Candidate::Nothing);
+    }
     Ok(Candidate::Point(point))
+}
+
+// Puts 0 at the first `n` places.
+fn fill_zeros(point: &mut [Coeff], n: usize) {
+    for k in 0..point.len().min(n) {
+        point[k] = Coeff::ZERO;
+    }
 }
 
 // A common multiple of the denominators of the system's variables.
@@ -96,6 +110,9 @@ fn fill_point(point: &mut [Coeff], tableau: &Tableau, common: i128) -> Option<()
 
 // The numerator over `common` of a constant over a denominator.
 fn numerator(constant: i64, denominator: i64, common: i128) -> Option<Coeff> {
+    if common == 1 {
+        return Some(coefficient(constant));
+    }
     let factor = common.checked_div(i128::from(denominator))?;
     Coeff::new(factor.checked_mul(i128::from(constant))?)
 }
@@ -109,38 +126,51 @@ pub fn refutation(
 ) -> Result<Candidate, NoMemory>
     requires { r < tableau.now.rows }
 {
-    let mut multipliers = vec![in alloc; Coeff::ZERO; count]?;
-    fill_multipliers(multipliers.as_mut_slice(), tableau, r);
-    let mut certificate = Certificate::new(alloc);
-    for multiplier in multipliers.as_slice() {
-        certificate.push(*multiplier)?;
-    }
+    let columns = tableau.column_variables();
+    refute(
+        alloc,
+        tableau.row_variable(r),
+        columns,
+        tableau.row(r),
+        count,
+    )
+}
+
+/// The same of a row of this variable and these cells, which cannot hold.
+pub fn refute(
+    alloc: Global,
+    variable: Variable,
+    columns: &[Variable],
+    cells: &[i64],
+    count: usize,
+) -> Result<Candidate, NoMemory> {
+    let mut certificate = Certificate::zeros(alloc, count)?;
+    fill_multipliers(&mut certificate, variable, columns, cells);
     Ok(Candidate::Refutation(certificate))
 }
 
-// Puts the multipliers of row `r` at their places. An equality with a positive constant is turned.
-fn fill_multipliers(multipliers: &mut [Coeff], tableau: &Tableau, r: usize)
-    requires { r < tableau.now.rows }
-{
-    let is_turned = tableau.constant(r) > 0;
-    put(
-        multipliers,
-        tableau.row_variable(r),
-        tableau.denominator(r),
-        is_turned,
-    );
-    for j in 0..tableau.column_count() {
-        put(
-            multipliers,
-            tableau.column_variable(j),
-            tableau.cell(r, j),
-            !is_turned,
-        );
+// Puts the multipliers of a row at their places. An equality with a positive constant is turned.
+fn fill_multipliers(
+    certificate: &mut Certificate,
+    variable: Variable,
+    columns: &[Variable],
+    cells: &[i64],
+) {
+    let [factors @ .., constant, denominator] = cells else {
+        return;
+    };
+    let is_turned = *constant > 0;
+    put(certificate, variable, *denominator, is_turned);
+    for j in 0..factors.len().min(columns.len()) {
+        put(certificate, columns[j], factors[j], !is_turned);
     }
 }
 
-// Puts a multiplier, or its negative, at the place of the variable's row.
-fn put(multipliers: &mut [Coeff], variable: Variable, value: i64, is_turned: bool) {
+// Puts a multiplier, or its negative, at the place of the variable's row, where 0 stands.
+fn put(certificate: &mut Certificate, variable: Variable, value: i64, is_turned: bool) {
+    if value == 0 {
+        return;
+    }
     let multiplier = coefficient(value);
     let signed = if is_turned {
         multiplier.negated()
@@ -149,8 +179,8 @@ fn put(multipliers: &mut [Coeff], variable: Variable, value: i64, is_turned: boo
     };
     match variable {
         Variable::Free(_) => {}
-        Variable::Zero(k) => set_at(multipliers, k, signed),
-        Variable::AtLeastZero(k) => set_at(multipliers, k, signed),
+        Variable::Zero(k) => set_at(certificate, k, signed),
+        Variable::AtLeastZero(k) => set_at(certificate, k, signed),
     }
 }
 
@@ -160,8 +190,8 @@ fn coefficient(value: i64) -> Coeff {
 }
 
 // Puts a multiplier at place `k`, where there is one.
-fn set_at(multipliers: &mut [Coeff], k: usize, multiplier: Coeff) {
-    if k < multipliers.len() {
-        multipliers[k] = multiplier;
+fn set_at(certificate: &mut Certificate, k: usize, multiplier: Coeff) {
+    if k < certificate.len() {
+        certificate.set(k, multiplier);
     }
 }

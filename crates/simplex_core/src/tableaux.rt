@@ -78,91 +78,33 @@ impl Tableau {
         }
     }
 
-    /// The tableau with further rows of these variables, whose values are 0.
-    pub fn with_rows(&self, alloc: Global, more: &[Variable]) -> Result<Option<Tableau>, NoMemory>
-        ensures { IfOk result (λ made. IfSome made (λ t. t ≡ record { rows = self.now.rows + length more.now; columns = self.now.columns })) }
+    /// The cells, and behind them those of so many further rows, which are zeros; `None` where there are too
+    /// many to be counted.
+    pub fn cells_with_rows(&self, alloc: Global, more: usize) -> Result<Option<Matrix>, NoMemory>
+        ensures { IfOk result (λ made. IfSome made (λ m. m ≡ record { rows = self.now.rows + more; columns = self.now.columns + 2 })) }
     {
-        let Some(cells) = self.cells.with_rows(alloc, more.len())? else {
-            return Ok(None);
-        };
+        self.cells.with_rows(alloc, more)
+    }
+
+    /// The tableau of these cells, whose rows are its own and further ones of these variables; `None` where
+    /// there are not as many cells.
+    pub fn with_rows(
+        &self,
+        alloc: Global,
+        cells: Matrix,
+        more: &[Variable],
+    ) -> Result<Option<Tableau>, NoMemory> {
         let mut rows = Vec::with_capacity(alloc, self.rows.len().saturating_add(more.len()))?;
         rows.extend_from_slice(self.rows.as_slice())?;
         rows.extend_from_slice(more)?;
-        let columns = Vec::from_slice(alloc, self.columns.as_slice())?;
-        let mut made = Tableau {
-            cells,
+        if cells.rows() < rows.len() || cells.columns() != self.columns.len() + 2 {
+            return Ok(None);
+        }
+        Ok(Some(Tableau {
+            cells: cells.first_rows(rows.len()),
             rows,
-            columns,
-        };
-        made.set_denominators(self.rows.len());
-        Ok(Some(made))
-    }
-
-    // Makes the denominators of the rows from row `first` on 1.
-    fn set_denominators(&mut self, first: usize)
-        ensures { self.new ≡ self.old }
-    {
-        let last = self.columns.len() + 1;
-        for i in first..self.row_count() {
-            self.cells.set(i, last, 1);
-        }
-    }
-
-    /// Adds `factor` times the variable that stands there to the value of row `i`. `None` where a cell
-    /// passes 64 bits, or no variable stands there.
-    pub fn add_variable(&mut self, i: usize, factor: i64, standing: Standing) -> Option<()>
-        requires { i < self.old.rows }
-        ensures { self.new ≡ self.old }
-    {
-        if factor == 0 {
-            return Some(());
-        }
-        match standing {
-            Standing::Column(j) => self.add_column(i, factor, j),
-            Standing::Row(r) => self.add_row(i, factor, r),
-        }
-    }
-
-    /// Adds `value` to the value of row `i`. `None` where the constant passes 64 bits.
-    pub fn add_constant(&mut self, i: usize, value: i64) -> Option<()>
-        requires { i < self.old.rows }
-        ensures { self.new ≡ self.old }
-    {
-        let constants = self.columns.len();
-        self.add_column(i, value, constants)
-    }
-
-    // Adds `factor` times the variable of column `j` to the value of row `i`, or the factor where that is
-    // the column of constants.
-    fn add_column(&mut self, i: usize, factor: i64, j: usize) -> Option<()>
-        requires { i < self.old.rows }
-        ensures { self.new ≡ self.old }
-    {
-        if j > self.columns.len() {
-            return None;
-        }
-        let added = factor.checked_mul(self.denominator(i))?;
-        let sum = self.cells.at(i, j).checked_add(added)?;
-        self.cells.set(i, j, sum);
-        Some(())
-    }
-
-    // Adds `factor` times the value of row `r` to that of row `i`.
-    fn add_row(&mut self, i: usize, factor: i64, r: usize) -> Option<()>
-        requires { i < self.old.rows }
-        ensures { self.new ≡ self.old }
-    {
-        if r >= self.row_count() {
-            return None;
-        }
-        let denominator = self.denominator(r);
-        let own = self.denominator(i);
-        if denominator == 1 && own == 1 {
-            self.cells.add_multiple(i, factor, r)
-        } else {
-            self.cells
-                .combine(denominator, i, factor.checked_mul(own)?, r)
-        }
+            columns: Vec::from_slice(alloc, self.columns.as_slice())?,
+        }))
     }
 
     /// The number of rows.
@@ -191,6 +133,18 @@ impl Tableau {
         requires { j < self.now.columns }
     {
         self.columns[j]
+    }
+
+    /// The variables of the columns.
+    pub fn column_variables(&self) -> &[Variable] {
+        self.columns.as_slice()
+    }
+
+    /// The cells of row `i`, and behind them its constant and its denominator.
+    pub fn row(&self, i: usize) -> &[i64]
+        requires { i < self.now.rows }
+    {
+        self.cells.row(i)
     }
 
     /// The cell of row `i` in column `j`.

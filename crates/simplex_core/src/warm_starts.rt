@@ -1,13 +1,15 @@
 //! A search that goes on where the search over a part of its rows has ended.
 
-ghost use Rattle.std.specs.Prelude.{◌≡◌};
+ghost use Rattle.std.specs.Prelude.{◌≡◌, ◌<◌};
 
 use crate::divisors::narrow;
+use crate::further_rows::{Said, add_constant, add_variable, what_is_said};
+use crate::matrices::Matrix;
 use crate::pivots::{End, solve};
-use crate::searches::{Candidate, refutation, search_over};
+use crate::searches::{Candidate, point, refutation, refute, search_over};
 use crate::starts::{start, value_of};
 use crate::tableaux::{Standing, Tableau, Variable};
-use relation_core::Part;
+use relation_core::{Part, PartRow};
 use row_core::Coeff;
 use std::alloc::Global;
 use suite_base::NoMemory;
@@ -27,7 +29,7 @@ impl WarmStart {
         let Some(mut tableau) = start(alloc, base)? else {
             return Ok(None);
         };
-        let Some(end) = solve(&mut tableau) else {
+        let Some(end) = solve(&mut tableau, 0) else {
             return Ok(None);
         };
         let standings = standings(alloc, &tableau)?;
@@ -46,60 +48,73 @@ impl WarmStart {
                 return refutation(alloc, &self.tableau, r, system.row_count());
             }
         }
-        let Some(mut tableau) = self.extended(alloc, system)? else {
+        self.search_further(alloc, system)
+    }
+
+    // Searches with the further rows of the system: one that cannot hold ends the search, and one that holds
+    // wherever the base's rows do is left out.
+    fn search_further(&self, alloc: Global, system: &Part) -> Result<Candidate, NoMemory> {
+        let known = self.tableau.row_count();
+        let count = system.row_count().saturating_sub(known);
+        let Some(mut cells) = self.tableau.cells_with_rows(alloc, count)? else {
             return Ok(Candidate::Nothing);
         };
-        search_over(alloc, &mut tableau)
-    }
-
-    // The tableau with the further rows of the system; `None` where a cell passes 64 bits.
-    fn extended(&self, alloc: Global, system: &Part) -> Result<Option<Tableau>, NoMemory> {
-        let known = self.tableau.row_count();
-        let further = further_variables(alloc, known, system)?;
-        let Some(mut tableau) = self.tableau.with_rows(alloc, further.as_slice())? else {
-            return Ok(None);
+        let mut kept = Vec::new(alloc);
+        for k in 0..count {
+            let i = known + k;
+            let variable = value_of(system.kind(i), i);
+            let place = known + kept.len();
+            match self.state(&mut cells, place, &system.rows()[i]) {
+                None => return Ok(Candidate::Nothing),
+                Some(Said::Always) => cells.clear(place),
+                Some(Said::Open) => kept.push(variable)?,
+                Some(Said::Never) => {
+                    let columns = self.tableau.column_variables();
+                    let count = system.row_count();
+                    return refute(alloc, variable, columns, cells.row(place), count);
+                }
+            }
+        }
+        if kept.is_empty() {
+            return point(alloc, &self.tableau);
+        }
+        let Some(mut tableau) = self.tableau.with_rows(alloc, cells, kept.as_slice())? else {
+            return Ok(Candidate::Nothing);
         };
-        if self.fill(&mut tableau, system).is_none() {
-            return Ok(None);
-        }
-        Ok(Some(tableau))
+        search_over(alloc, &mut tableau, known, system.row_count())
     }
 
-    // Puts the further rows of the system into those of the tableau.
-    fn fill(&self, tableau: &mut Tableau, system: &Part) -> Option<()> {
-        for i in self.tableau.row_count()..system.row_count() {
-            self.fill_row(tableau, i, system.rows()[i].entries.as_slice())?;
-        }
-        Some(())
+    // Puts what a row of the system says of its variables into row `place`, where zeros stand, and answers
+    // what it says of the columns. `None` where a cell passes 64 bits.
+    fn state(&self, cells: &mut Matrix, place: usize, row: &PartRow) -> Option<Said>
+        requires row { place < cells.old.rows }
+        requires columns { 1 < cells.old.columns }
+        ensures { cells.new ≡ cells.old }
+    {
+        let last = cells.columns() - 1;
+        cells.set(place, last, 1);
+        self.fill_row(cells, place, row.entries.as_slice())?;
+        let columns = self.tableau.column_variables();
+        Some(what_is_said(row.kind, columns, cells.row(place)))
     }
 
-    // Puts what row `i` of the system says of its variables into the tableau, which says it of its columns.
-    fn fill_row(&self, tableau: &mut Tableau, i: usize, entries: &[Coeff]) -> Option<()> {
+    // Puts what a row of the system says of its variables into row `place`, which says it of the columns.
+    fn fill_row(&self, cells: &mut Matrix, place: usize, entries: &[Coeff]) -> Option<()>
+        requires row { place < cells.old.rows }
+        requires columns { 1 < cells.old.columns }
+        ensures { cells.new ≡ cells.old }
+    {
         let [factors @ .., constant] = entries else {
             return None;
         };
-        if i >= tableau.row_count() {
-            return None;
-        }
         for j in 0..factors.len() {
-            let standing = *self.standings.get(j)?;
-            tableau.add_variable(i, narrow(factors[j].value())?, standing)?;
+            if !factors[j].is_zero() {
+                let standing = *self.standings.get(j)?;
+                add_variable(cells, place, narrow(factors[j].value())?, standing)?;
+            }
         }
-        tableau.add_constant(i, narrow(constant.value())?)
+        add_constant(cells, place, narrow(constant.value())?)
     }
-}
-
-// The values of the rows of the system from row `first` on.
-fn further_variables(
-    alloc: Global,
-    first: usize,
-    system: &Part,
-) -> Result<Vec<Variable>, NoMemory> {
-    let mut made = Vec::with_capacity(alloc, system.row_count().saturating_sub(first))?;
-    for i in first..system.row_count() {
-        made.push(value_of(system.kind(i), i))?;
-    }
-    Ok(made)
 }
 
 // Where each variable of the system stands in the tableau.
