@@ -1,8 +1,9 @@
-//! The verdict that the simplex method finds, once a check has accepted it.
+//! The verdict that two rows, a point at hand or the simplex method gives, once a check has accepted it.
 
 ghost use Rattle.std.specs.Prelude.{IfOk, IfSome};
 ghost use Rattle.elim_core.specs.Peaks.{IsRight};
 
+use crate::opposed_rows::opposed_rows;
 use crate::verdicts::Verdict;
 use farkas_cert::{Certificate, check, check_point};
 use relation_core::Part;
@@ -11,12 +12,52 @@ use simplex_core::{Candidate, WarmStart, search};
 use std::alloc::Global;
 use suite_base::NoMemory;
 
-/// The verdict that the simplex method finds for `system`; `None` where it finds nothing, or where
-/// the check does not accept what it has found.
+/// Searches of systems one after the other: a point found for one is tried first for those that follow.
+#[derive(Drop)]
+pub struct Search {
+    // the last point found, or nothing
+    point: Vec<Coeff>,
+}
+
+impl Search {
+    /// A search that has found nothing yet.
+    pub fn new(alloc: Global) -> Search {
+        Search {
+            point: Vec::new(alloc),
+        }
+    }
+
+    /// The verdict that `search_checked` finds for `system`, or that the last point gives it.
+    pub fn search(&mut self, alloc: Global, system: &Part) -> Result<Option<Verdict>, NoMemory>
+        ensures { IfOk result (λ found. IfSome found (λ verdict. IsRight system.now verdict)) }
+    {
+        if let Some(verdict) = accept_opposed(alloc, system)? {
+            return Ok(Some(verdict));
+        }
+        if let Some(verdict) = accept_point(system, self.point.as_slice()) {
+            return Ok(Some(verdict));
+        }
+        match search(alloc, system)? {
+            Candidate::Point(point) => {
+                let found = accept_point(system, point.as_slice());
+                self.point = point;
+                Ok(found)
+            }
+            Candidate::Refutation(certificate) => Ok(accept_refutation(system, certificate)),
+            Candidate::Nothing => Ok(None),
+        }
+    }
+}
+
+/// The verdict that two opposed rows or the simplex method gives for `system`; `None` where neither
+/// finds anything, or where the check does not accept what was found.
 pub fn search_checked(alloc: Global, system: &Part) -> Result<Option<Verdict>, NoMemory>
     ensures { IfOk result (λ found. IfSome found (λ verdict. IsRight system.now verdict)) }
 {
-    Ok(accepted(system, search(alloc, system)?))
+    match accept_opposed(alloc, system)? {
+        Some(verdict) => Ok(Some(verdict)),
+        None => Ok(accepted(system, search(alloc, system)?)),
+    }
 }
 
 /// As `search_checked`, but the search goes on from that of the first rows.
@@ -27,7 +68,20 @@ pub fn search_from(
 ) -> Result<Option<Verdict>, NoMemory>
     ensures { IfOk result (λ found. IfSome found (λ verdict. IsRight system.now verdict)) }
 {
-    Ok(accepted(system, warm.search(alloc, system)?))
+    match accept_opposed(alloc, system)? {
+        Some(verdict) => Ok(Some(verdict)),
+        None => Ok(accepted(system, warm.search(alloc, system)?)),
+    }
+}
+
+// The verdict of two rows that contradict each other, where the check accepts it.
+fn accept_opposed(alloc: Global, system: &Part) -> Result<Option<Verdict>, NoMemory>
+    ensures { IfOk result (λ found. IfSome found (λ verdict. IsRight system.now verdict)) }
+{
+    match opposed_rows(alloc, system)? {
+        Some(certificate) => Ok(accept_refutation(system, certificate)),
+        None => Ok(None),
+    }
 }
 
 // The verdict of what a search has found, where the check accepts it.
