@@ -11,7 +11,7 @@ ghost use Rattle.candl_deps.specs.Decisions.{IsRight, IsDecided, FailsOne};
 ghost use Rattle.candl_deps.specs.Bases as spec;
 
 use dependence_systems::{Dep, own_pairing};
-use elim_core::{ElimFail, Reduced, Verdict, decide_with, reduce, search_checked};
+use elim_core::{ElimFail, Reduced, Search, Verdict, decide_with, reduce};
 use farkas_cert::Certificate;
 use relation_core::Part;
 use row_core::{RowFail, SparseRow};
@@ -165,13 +165,14 @@ fn eliminate(
     }
 }
 
-// Decides the system of an entry: by the simplex method, and where that finds nothing, by the elimination.
+// Decides the system of an entry: by a search, and where that finds nothing, by the elimination.
 fn decide(
     alloc: Global,
     scop: &Scop,
     pieces: &Pieces,
     entry: &Dep,
     reduced: Option<Reduced<SparseRow>>,
+    search: &mut Search,
     system: &Part,
 ) -> Result<Decision, ElimFail>
     requires own { pieces.now ≡ own_originals scop.now }
@@ -182,7 +183,7 @@ fn decide(
     ensures reduced { IfOk result (λ found. IfSome found.reduced (λ rows. rows ≡ base_of (pairing_of scop.now.context (own_sides scop.now) entry.now))) }
     ensures cause { IfErr result (FailsOne scop.now.context (own_sides scop.now) entry.now) }
 {
-    match search_checked(alloc, system) {
+    match search.search(alloc, system) {
         Err(NoMemory) => Err(ElimFail::Memory),
         Ok(None) => eliminate(alloc, scop, pieces, entry, reduced, system),
         Ok(Some(Verdict::HasPoint)) => Ok(Decision {
@@ -203,6 +204,7 @@ fn decide_level(
     pieces: &Pieces,
     entry: &Dep,
     reduced: Option<Reduced<SparseRow>>,
+    search: &mut Search,
     part: &mut Part,
 ) -> Result<Decision, ElimFail>
     requires own { pieces.now ≡ own_originals scop.now }
@@ -218,17 +220,19 @@ fn decide_level(
     match pairing.push_level(part, entry.level as usize) {
         Err(RowFail::Memory) => Err(ElimFail::Memory),
         Err(RowFail::Overflow) => Err(ElimFail::Overflow),
-        Ok(()) => decide(alloc, scop, pieces, entry, reduced, part),
+        Ok(()) => decide(alloc, scop, pieces, entry, reduced, search, part),
     }
 }
 
-/// Builds and decides the system of an entry of a SCoP's own list; `held` is the base of an entry before it.
+/// Builds and decides the system of an entry of a SCoP's own list; `held` is the base of an entry before it, and
+/// `search` that of the systems before it.
 pub fn decided_entry(
     alloc: Global,
     scop: &Scop,
     pieces: &Pieces,
     entry: &Dep,
     held: Option<Base>,
+    search: &mut Search,
 ) -> Result<Level, ElimFail>
     requires own { pieces.now ≡ own_originals scop.now }
     requires listed { In entry.now (entries (own_sides scop.now)) }
@@ -239,7 +243,15 @@ pub fn decided_entry(
 {
     let mut base = base_for(alloc, scop, pieces, entry, held)?;
     let reduced = base.reduced.take();
-    let found = decide_level(alloc, scop, pieces, entry, reduced, &mut base.part)?;
+    let found = decide_level(
+        alloc,
+        scop,
+        pieces,
+        entry,
+        reduced,
+        search,
+        &mut base.part,
+    )?;
     base.reduced = found.reduced;
     Ok(Level {
         base,

@@ -17,7 +17,7 @@ ghost use Rattle.candl_deps.specs.Decisions as spec;
 use crate::bases::{Base, decided_entry};
 use dependence_blocks::{block, print_count, print_entry};
 use dependence_systems::{Dep, own_deps, own_pieces};
-use elim_core::ElimFail;
+use elim_core::{ElimFail, Search};
 use scop_core::{Extension, Pieces, Scop};
 use std::alloc::Global;
 use suite_base::{Fail, List, Refusal, Text, Where};
@@ -93,8 +93,11 @@ fn print_decided(
 {
     let items = list.as_slice();
     let mut held = None;
+    let mut search = Search::new(alloc);
     for k in 0..items.len() {
-        let base = print_one(alloc, scop, pieces, &items[k], k as u32 + 1, held, lines)?;
+        let number = k as u32 + 1;
+        let entry = &items[k];
+        let base = print_one(alloc, scop, pieces, entry, number, held, &mut search, lines)?;
         held = Some(base);
     }
     Ok(())
@@ -109,6 +112,7 @@ fn print_one(
     entry: &Dep,
     number: u32,
     held: Option<Base>,
+    search: &mut Search,
     lines: &mut List<Text>,
 ) -> Result<Base, Fail>
     requires own { pieces.now ≡ own_originals scop.now }
@@ -120,7 +124,7 @@ fn print_one(
     ensures kept { OnOk result (are_kept_lines block_name lines.new ≡ true) }
     ensures cause { IfErr result (spec.StopsOne scop.now.context (own_sides scop.now) entry.now number) }
 {
-    match decided_entry(alloc, scop, pieces, entry, held) {
+    match decided_entry(alloc, scop, pieces, entry, held, search) {
         Err(fail) => Err(refused(fail, number)),
         Ok(level) => {
             print_entry(alloc, lines, entry, &level.base.part, &level.certificate)?;

@@ -17,6 +17,7 @@ use crate::decisions::{own_entries, refused};
 use crate::held::{Decided, Dependences};
 use dependence_blocks::{block, entry_is_readable, print_count, print_entry};
 use dependence_systems::{Dep, own_pieces};
+use elim_core::Search;
 use relation_core::Part;
 use scop_core::{Extension, Pieces, Scop};
 use std::alloc::Global;
@@ -50,9 +51,20 @@ fn decided_entries(
     let items = list.as_slice();
     let mut made = List::new(alloc);
     let mut held = None;
+    let mut search = Search::new(alloc);
     for k in 0..items.len() {
         let number = k as u32 + 1;
-        let base = push_decided(alloc, scop, pieces, &items[k], number, held, &mut made)?;
+        let entry = &items[k];
+        let base = push_decided(
+            alloc,
+            scop,
+            pieces,
+            entry,
+            number,
+            held,
+            &mut search,
+            &mut made,
+        )?;
         held = Some(base);
     }
     Ok(made)
@@ -76,6 +88,7 @@ fn push_decided(
     entry: &Dep,
     number: u32,
     held: Option<Base>,
+    search: &mut Search,
     made: &mut List<Decided>,
 ) -> Result<Base, Fail>
     requires own { pieces.now ≡ own_originals scop.now }
@@ -85,7 +98,7 @@ fn push_decided(
     ensures pushed { OnOk result (spec.IsPushed scop.now.context (own_sides scop.now) entry.now made.old made.new) }
     ensures cause { IfErr result (StopsOne scop.now.context (own_sides scop.now) entry.now number) }
 {
-    match decided_entry(alloc, scop, pieces, entry, held) {
+    match decided_entry(alloc, scop, pieces, entry, held, search) {
         Err(fail) => Err(refused(fail, number)),
         Ok(level) => {
             let Level { base, certificate } = level;
