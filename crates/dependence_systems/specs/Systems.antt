@@ -129,6 +129,12 @@ shared_rows w context source_part target_part source_floors target_floors =
 abbrev pub rows_of_floors : System → ℕ → Schedule → List PartRow
 rows_of_floors context iterators schedule = (floor_part iterators context.shape.parameters schedule.floors).rows
 
+-- the rows that the systems of all accesses share
+abbrev pub ground_rows : Pairing → List PartRow
+ground_rows m =
+    let w = widths_of m in
+    shared_rows w m.context.rows m.source_part.rows m.target_part.rows (rows_of_floors m.context w.source m.source_schedule) (rows_of_floors m.context w.target m.target_schedule)
+
 -- the rows that the systems of all levels share: those, and source minus target = 0 for each subscript
 abbrev pub base_rows : Pairing → List PartRow
 base_rows m =
@@ -154,7 +160,10 @@ abbrev pub level_rows : Widths → Schedule → Schedule → ℕ → List PartRo
 level_rows w source target zero = equal_rows w source.levels target.levels (common_loops source.betas target.betas)
 level_rows w source target (suc k) = equal_rows w source.levels target.levels k ++ less_rows w source.levels target.levels k
 
--- the system of two accesses to the subscripts, and that of one level
+-- the system of two accesses to the floors, that to the subscripts, and that of one level
+abbrev pub ground_of : Pairing → System
+ground_of m = record { shape = system_shape m; rows = ground_rows m }
+
 abbrev pub base_of : Pairing → System
 base_of m = record { shape = system_shape m; rows = base_rows m }
 

@@ -1,12 +1,12 @@
 //! The system of two accesses at one level, from its two sides.
 
-ghost use Rattle.std.specs.Prelude.{◌≡◌, ◌≤◌, ◌<◌, ◌^◌, ◌++◌, [], length, OnOk, IfOk, IfErr};
+ghost use Rattle.std.specs.Prelude.{pos, negsuc, ◌≡◌, ◌≤◌, ◌<◌, ◌^◌, ◌++◌, [], length, OnOk, IfOk, IfErr};
 ghost use Rattle.relation_core.specs.Systems.{HasLimits};
 ghost use Rattle.scop_core.specs.LevelOrder.{IsLevel};
 ghost use Rattle.scop_core.specs.SolvedRows.{floor_part};
-ghost use Rattle.dependence_systems.specs.Fits.{GroundsFit, PairingFits};
+ghost use Rattle.dependence_systems.specs.Fits.{GroundsFit, SubscriptsFit, PairingFits};
 ghost use Rattle.dependence_systems.specs.Comparisons.{HasColumns, SharedFit};
-ghost use Rattle.dependence_systems.specs.Systems.{widths_for, shape_with, placed_rows, shared_rows, pairing, base_of, base_weight, level_system, system_shape, system_weight};
+ghost use Rattle.dependence_systems.specs.Systems.{widths_for, shape_with, placed_rows, shared_rows, pairing, rows_between, subscript_row, weight_between, base_of, base_weight, level_system, system_shape, system_weight};
 
 use crate::comparing::push_comparisons;
 use crate::level_rows::push_level;
@@ -73,7 +73,15 @@ pub fn shared_part(
         locals: w.source_part + w.target_part + w.source_floors + w.target_floors,
         parameters: context.shape().parameters,
     };
-    let mut part = Part::new(alloc, shape);
+    let grounds = context
+        .row_count()
+        .saturating_add(source_part.row_count())
+        .saturating_add(target_part.row_count())
+        .saturating_add(source_floors.row_count())
+        .saturating_add(target_floors.row_count());
+    // room for a subscript or a level for each iterator
+    let room = grounds.saturating_add(w.source).saturating_add(w.target);
+    let mut part = Part::with_capacity(alloc, shape, room)?;
     push_side(&mut part, Topic::Context, w, context)?;
     push_side(&mut part, Topic::SourcePart, w, source_part)?;
     push_side(&mut part, Topic::TargetPart, w, target_part)?;
@@ -83,7 +91,7 @@ pub fn shared_part(
 }
 
 /// The same with the floors of two schedules.
-fn shared_of(
+pub fn shared_of(
     alloc: Global,
     context: &Part,
     source_part: &Part,
@@ -113,6 +121,28 @@ fn shared_of(
     )
 }
 
+/// Appends the rows of the subscripts of two accesses. Overflow comes exactly where an entry of them has summands
+/// whose absolute values sum above 2^127 - 1.
+pub fn push_subscripts(
+    part: &mut Part,
+    w: &Widths,
+    source: &Access,
+    target: &Access,
+) -> Result<(), RowFail>
+    requires columns { part.old.shape ≡ shape_with w.now part.old.shape.parameters }
+    requires lengths { length source.now.subscripts ≡ length target.now.subscripts }
+    requires source { SubscriptsFit w.now.source part.old.shape.parameters source.now.subscripts }
+    requires target { SubscriptsFit w.now.target part.old.shape.parameters target.now.subscripts }
+    ensures shape { part.new.shape ≡ part.old.shape }
+    ensures rows { OnOk result (part.new.rows ≡ part.old.rows ++ rows_between (subscript_row w.now) source.now.subscripts target.now.subscripts) }
+    ensures light { OnOk result (weight_between (pos 1) (negsuc 0) (pos 0) source.now.subscripts target.now.subscripts < 2 ^ 127) }
+    ensures heavy { IfErr result (λ fail. fail ≡ RowFail.Overflow → 2 ^ 127 ≤ weight_between (pos 1) (negsuc 0) (pos 0) source.now.subscripts target.now.subscripts) }
+{
+    let subscripts = source.subscripts.as_slice();
+    let others = target.subscripts.as_slice();
+    push_comparisons(part, Comparison::Subscripts, w, subscripts, others)
+}
+
 /// The rows that the systems of two accesses share at all levels: those of the two sides, in parts of the
 /// domains of their statements and under two schedules, and those of the subscripts. Overflow comes
 /// exactly where an entry of them has summands whose absolute values sum above 2^127 - 1.
@@ -137,9 +167,7 @@ pub fn base_between(
         Err(NoMemory) => Err(RowFail::Memory),
         Ok(part) => {
             let mut part = part;
-            let subscripts = source_access.subscripts.as_slice();
-            let others = target_access.subscripts.as_slice();
-            push_comparisons(&mut part, Comparison::Subscripts, &w, subscripts, others)?;
+            push_subscripts(&mut part, &w, source_access, target_access)?;
             Ok(part)
         }
     }

@@ -58,9 +58,10 @@ fn push_floors(
     }
 }
 
-/// The columns of iterators and locals of the row that compares two values.
+/// The columns of iterators and locals of the row that compares two values, with room for `width` entries.
 fn front_columns(
     alloc: Global,
+    width: usize,
     comparison: Comparison,
     w: &Widths,
     a: &Affine,
@@ -71,7 +72,7 @@ fn front_columns(
         ++ floor_columns comparison w.now.target_floors (factor_of (not (is_turned comparison))) b.now) }
 {
     let turned = comparison.turned();
-    let mut row = DenseRow::new(alloc);
+    let mut row = DenseRow::with_capacity(alloc, width)?;
     push_signed(&mut row, turned, a.iterators())?;
     push_signed(&mut row, !turned, b.iterators())?;
     push_zeros(&mut row, w.source_part)?;
@@ -105,6 +106,7 @@ fn push_constant(
 /// absolute values sum above 2^127 - 1.
 fn comparing_row(
     alloc: Global,
+    width: usize,
     comparison: Comparison,
     w: &Widths,
     a: &Affine,
@@ -116,7 +118,7 @@ fn comparing_row(
     ensures heavy { IfErr result (λ fail. fail ≡ RowFail.Overflow → 2 ^ 127 ≤ weight_for comparison a.now b.now) }
 {
     let turned = comparison.turned();
-    match front_columns(alloc, comparison, w, a, b) {
+    match front_columns(alloc, width, comparison, w, a, b) {
         Err(NoMemory) => Err(RowFail::Memory),
         Ok(row) => {
             let mut row = row;
@@ -143,7 +145,8 @@ fn push_comparison(
     ensures light { OnOk result (weight_for comparison a.now b.now < 2 ^ 127) }
     ensures heavy { IfErr result (λ fail. fail ≡ RowFail.Overflow → 2 ^ 127 ≤ weight_for comparison a.now b.now) }
 {
-    let row = comparing_row(part.allocator(), comparison, w, a, b)?;
+    let width = part.width();
+    let row = comparing_row(part.allocator(), width, comparison, w, a, b)?;
     match part.push_row(comparison.kind(), row.as_slice()) {
         Ok(()) => Ok(()),
         Err(NoMemory) => Err(RowFail::Memory),

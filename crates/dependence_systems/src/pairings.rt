@@ -3,15 +3,16 @@
 ghost use Rattle.std.specs.Prelude.{◌≡◌, ◌≤◌, ◌<◌, ◌^◌, OnOk, IfOk, IfErr};
 ghost use Rattle.scop_core.specs.LevelOrder.{IsLevel};
 ghost use Rattle.dependence_systems.specs.Fits.{IsBuildable};
-ghost use Rattle.dependence_systems.specs.Systems.{pairing, base_of, base_weight, level_system, level_weight};
+ghost use Rattle.dependence_systems.specs.Systems.{pairing, ground_of, base_of, base_weight, level_system, level_weight};
 
-use crate::building::{base_between, widths_between};
+use crate::building::{base_between, push_subscripts, shared_of, widths_between};
 use crate::level_rows;
 use relation_core::Part;
 use row_core::RowFail;
 use scop_core::{Access, Schedule};
 use std::alloc::Global;
 use std::marker::Model;
+use suite_base::NoMemory;
 
 /// What the systems of two accesses are made of: the context, and of the source and the target a part of
 /// the domain, the access and the schedule. They fit together.
@@ -80,6 +81,38 @@ impl<'a> Pairing<'a> {
             self.source_schedule,
             self.target_schedule,
         )
+    }
+
+    /// The rows that the systems of all accesses in these parts begin with: those of the context, of both domain
+    /// parts, and of the floors of both schedules.
+    pub fn ground(&self, alloc: Global) -> Result<Part, NoMemory>
+        ensures { IfOk result (λ part. part ≡ ground_of self.now) }
+    {
+        shared_of(
+            alloc,
+            self.context,
+            self.source_part,
+            self.target_part,
+            self.source_schedule,
+            self.target_schedule,
+        )
+    }
+
+    /// Appends the rows of the subscripts to those of the ground, which makes them those of the base. Overflow
+    /// comes exactly where an entry of the subscripts' rows has summands whose absolute values sum above 2^127 - 1.
+    pub fn push_subscripts(&self, part: &mut Part) -> Result<(), RowFail>
+        requires ground { part.old ≡ ground_of self.now }
+        ensures base { OnOk result (part.new ≡ base_of self.now) }
+        ensures light { OnOk result (base_weight self.now < 2 ^ 127) }
+        ensures heavy { IfErr result (λ fail. fail ≡ RowFail.Overflow → 2 ^ 127 ≤ base_weight self.now) }
+    {
+        let w = widths_between(
+            self.source_part,
+            self.target_part,
+            self.source_schedule,
+            self.target_schedule,
+        );
+        push_subscripts(part, &w, self.source_access, self.target_access)
     }
 
     /// Appends the rows of a level to those of the base. Overflow comes exactly where an entry of the

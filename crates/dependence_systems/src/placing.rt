@@ -12,10 +12,15 @@ use std::alloc::Global;
 use suite_base::NoMemory;
 
 /// A row of the context.
-fn context_row(alloc: Global, w: &Widths, entries: &[Coeff]) -> Result<DenseRow, NoMemory>
+fn context_row(
+    alloc: Global,
+    width: usize,
+    w: &Widths,
+    entries: &[Coeff],
+) -> Result<DenseRow, NoMemory>
     ensures { IfOk result (λ row. row ≡ placed Topic.Context w.now entries.now) }
 {
-    let mut row = DenseRow::new(alloc);
+    let mut row = DenseRow::with_capacity(alloc, width)?;
     push_zeros(&mut row, w.source)?;
     push_zeros(&mut row, w.target)?;
     push_zeros(&mut row, w.source_part)?;
@@ -27,13 +32,18 @@ fn context_row(alloc: Global, w: &Widths, entries: &[Coeff]) -> Result<DenseRow,
 }
 
 /// A row of the source's domain part.
-fn source_part_row(alloc: Global, w: &Widths, entries: &[Coeff]) -> Result<DenseRow, NoMemory>
+fn source_part_row(
+    alloc: Global,
+    width: usize,
+    w: &Widths,
+    entries: &[Coeff],
+) -> Result<DenseRow, NoMemory>
     requires { w.now.source + w.now.source_part ≤ length entries.now }
     ensures { IfOk result (λ row. row ≡ placed Topic.SourcePart w.now entries.now) }
 {
     let (iterators, rest) = entries.split_at(w.source);
     let (locals, rest) = rest.split_at(w.source_part);
-    let mut row = DenseRow::new(alloc);
+    let mut row = DenseRow::with_capacity(alloc, width)?;
     push_all(&mut row, iterators)?;
     push_zeros(&mut row, w.target)?;
     push_all(&mut row, locals)?;
@@ -45,13 +55,18 @@ fn source_part_row(alloc: Global, w: &Widths, entries: &[Coeff]) -> Result<Dense
 }
 
 /// A row of the target's domain part.
-fn target_part_row(alloc: Global, w: &Widths, entries: &[Coeff]) -> Result<DenseRow, NoMemory>
+fn target_part_row(
+    alloc: Global,
+    width: usize,
+    w: &Widths,
+    entries: &[Coeff],
+) -> Result<DenseRow, NoMemory>
     requires { w.now.target + w.now.target_part ≤ length entries.now }
     ensures { IfOk result (λ row. row ≡ placed Topic.TargetPart w.now entries.now) }
 {
     let (iterators, rest) = entries.split_at(w.target);
     let (locals, rest) = rest.split_at(w.target_part);
-    let mut row = DenseRow::new(alloc);
+    let mut row = DenseRow::with_capacity(alloc, width)?;
     push_zeros(&mut row, w.source)?;
     push_all(&mut row, iterators)?;
     push_zeros(&mut row, w.source_part)?;
@@ -63,13 +78,18 @@ fn target_part_row(alloc: Global, w: &Widths, entries: &[Coeff]) -> Result<Dense
 }
 
 /// A row of the source's floors.
-fn source_floors_row(alloc: Global, w: &Widths, entries: &[Coeff]) -> Result<DenseRow, NoMemory>
+fn source_floors_row(
+    alloc: Global,
+    width: usize,
+    w: &Widths,
+    entries: &[Coeff],
+) -> Result<DenseRow, NoMemory>
     requires { w.now.source + w.now.source_floors ≤ length entries.now }
     ensures { IfOk result (λ row. row ≡ placed Topic.SourceFloors w.now entries.now) }
 {
     let (iterators, rest) = entries.split_at(w.source);
     let (floors, rest) = rest.split_at(w.source_floors);
-    let mut row = DenseRow::new(alloc);
+    let mut row = DenseRow::with_capacity(alloc, width)?;
     push_all(&mut row, iterators)?;
     push_zeros(&mut row, w.target)?;
     push_zeros(&mut row, w.source_part)?;
@@ -81,13 +101,18 @@ fn source_floors_row(alloc: Global, w: &Widths, entries: &[Coeff]) -> Result<Den
 }
 
 /// A row of the target's floors.
-fn target_floors_row(alloc: Global, w: &Widths, entries: &[Coeff]) -> Result<DenseRow, NoMemory>
+fn target_floors_row(
+    alloc: Global,
+    width: usize,
+    w: &Widths,
+    entries: &[Coeff],
+) -> Result<DenseRow, NoMemory>
     requires { w.now.target + w.now.target_floors ≤ length entries.now }
     ensures { IfOk result (λ row. row ≡ placed Topic.TargetFloors w.now entries.now) }
 {
     let (iterators, rest) = entries.split_at(w.target);
     let (floors, rest) = rest.split_at(w.target_floors);
-    let mut row = DenseRow::new(alloc);
+    let mut row = DenseRow::with_capacity(alloc, width)?;
     push_zeros(&mut row, w.source)?;
     push_all(&mut row, iterators)?;
     push_zeros(&mut row, w.source_part)?;
@@ -98,9 +123,10 @@ fn target_floors_row(alloc: Global, w: &Widths, entries: &[Coeff]) -> Result<Den
     Ok(row)
 }
 
-/// A row in the columns of a system; it has at least its iterators and locals.
+/// A row in the columns of a system, made with room for `width` entries; it has at least its iterators and locals.
 fn placed_row(
     alloc: Global,
+    width: usize,
     topic: Topic,
     w: &Widths,
     entries: &[Coeff],
@@ -109,11 +135,11 @@ fn placed_row(
     ensures { IfOk result (λ row. row ≡ placed topic w.now entries.now) }
 {
     match topic {
-        Topic::Context => context_row(alloc, w, entries),
-        Topic::SourcePart => source_part_row(alloc, w, entries),
-        Topic::TargetPart => target_part_row(alloc, w, entries),
-        Topic::SourceFloors => source_floors_row(alloc, w, entries),
-        Topic::TargetFloors => target_floors_row(alloc, w, entries),
+        Topic::Context => context_row(alloc, width, w, entries),
+        Topic::SourcePart => source_part_row(alloc, width, w, entries),
+        Topic::TargetPart => target_part_row(alloc, width, w, entries),
+        Topic::SourceFloors => source_floors_row(alloc, width, w, entries),
+        Topic::TargetFloors => target_floors_row(alloc, width, w, entries),
     }
 }
 
@@ -125,7 +151,8 @@ fn push_placed(part: &mut Part, topic: Topic, w: &Widths, row: &PartRow) -> Resu
     ensures shape { part.new.shape ≡ part.old.shape }
     ensures rows { OnOk result (part.new.rows ≡ part.old.rows ++ placed_rows topic w.now (row.now ∷ [])) }
 {
-    let entries = placed_row(part.allocator(), topic, w, row.entries.as_slice())?;
+    let width = part.width();
+    let entries = placed_row(part.allocator(), width, topic, w, row.entries.as_slice())?;
     part.push_row(row.kind, entries.as_slice())
 }
 
