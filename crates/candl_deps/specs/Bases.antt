@@ -2,13 +2,18 @@
 use Rattle.std.specs.Prelude.{◌≡◌, ◌^◌, ◌<◌, List, length, IfSome}
 use Rattle.relation_core.specs.Systems.{System, truncated}
 use Rattle.dependence_systems.specs.declared.dependences.Dep.{Dep}
+use Rattle.dependence_systems.specs.declared.dependences.DepKind.TheVariants.{Raw}
 use Rattle.dependence_systems.specs.Sides.{Side}
-use Rattle.dependence_systems.specs.Systems.{pairing_of, base_of, base_weight}
+use Rattle.dependence_systems.specs.Systems.{pairing_of, ground_of, base_of, base_weight}
 use Rattle.candl_deps.specs.declared.bases.Base.{Base}
 
 -- an entry without its level
 abbrev pub without_level : Dep → Dep
 without_level e = record e { level = 0 }
+
+-- an entry without what tells one pair of accesses from another, and without its level
+abbrev pub without_accesses : Dep → Dep
+without_accesses e = record e { kind = Raw; source_access = 0; target_access = 0; level = 0 }
 
 -- a base without the rows of a level
 abbrev pub cut_back : Base → Base
@@ -18,6 +23,7 @@ cut_back base = record base { part = truncated base.count base.part }
 pub record IsBase (context : System) (sides : List Side) (base : Base) : Type 0 where
   pub part : base.part ≡ base_of (pairing_of context sides base.entry)
   pub count : base.count ≡ length base.part.rows
+  pub ground : base.ground ≡ length (ground_of (pairing_of context sides base.entry)).rows
   pub reduced : IfSome base.reduced (λ rows. rows ≡ base.part)
   pub light : base_weight (pairing_of context sides base.entry) < 2 ^ 127
 

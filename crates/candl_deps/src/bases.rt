@@ -1,16 +1,18 @@
 //! The verdict of each system, over the rows that it shares with the systems of the same accesses and parts at
-//! other levels: these are built once, and reduced once where the simplex method leaves a system open.
+//! other levels: these are built once, and reduced once where the simplex method leaves a system open. Those that
+//! do not speak of accesses are built once for all accesses in the same parts.
 
 ghost use Rattle.std.specs.Prelude.{◌≡◌, ◌<◌, ◌≤◌, ◌^◌, IsTrue, IfOk, IfErr, IfSome, OnOk};
 ghost use Rattle.scop_core.specs.Sequences.{In};
+ghost use Rattle.relation_core.specs.Systems.{truncated};
 ghost use Rattle.dependence_systems.specs.Sides.{own_sides};
 ghost use Rattle.dependence_systems.specs.Originals.{own_originals};
 ghost use Rattle.dependence_systems.specs.Entries.{entries};
-ghost use Rattle.dependence_systems.specs.Systems.{base_of, base_weight, pairing_of, system_of, level_weight, summand_weight};
+ghost use Rattle.dependence_systems.specs.Systems.{ground_of, base_of, base_weight, pairing_of, system_of, level_weight, summand_weight};
 ghost use Rattle.candl_deps.specs.Decisions.{IsRight, IsDecided, FailsOne};
 ghost use Rattle.candl_deps.specs.Bases as spec;
 
-use dependence_systems::{Dep, own_pairing};
+use dependence_systems::{Dep, DepKind, own_pairing};
 use elim_core::{ElimFail, Reduced, Search, Verdict, decide_with, reduce};
 use farkas_cert::Certificate;
 use relation_core::Part;
@@ -21,11 +23,12 @@ use suite_base::NoMemory;
 
 /// The rows that the systems of an entry, and of those that differ from it in the level alone, begin with; and
 /// the same reduced, once the elimination has wanted them. While a level is decided, its rows stand behind the
-/// first `count` rows.
+/// first `count` rows. The first `ground` rows do not speak of accesses.
 #[derive(Drop)]
 pub struct Base {
     entry: Dep,
     pub part: Part,
+    ground: usize,
     count: usize,
     reduced: Option<Reduced<SparseRow>>,
 }
@@ -54,6 +57,15 @@ impl Base {
         base.part.truncate(base.count);
         base
     }
+
+    // The rows that do not speak of accesses.
+    fn ground_alone(self) -> Part
+        ensures { result ≡ truncated self.ground self.part }
+    {
+        let mut part = self.part;
+        part.truncate(self.ground);
+        part
+    }
 }
 
 // Whether two entries differ in the level alone.
@@ -61,6 +73,50 @@ fn have_one_base(a: &Dep, b: &Dep) -> bool
     ensures { IsTrue result → spec.without_level a.now ≡ spec.without_level b.now }
 {
     Dep { level: 0, ..*a } == Dep { level: 0, ..*b }
+}
+
+// An entry without what tells one pair of accesses from another, and without its level.
+fn without_accesses(entry: &Dep) -> Dep
+    ensures { result ≡ spec.without_accesses entry.now }
+{
+    Dep {
+        kind: DepKind::Raw,
+        source_access: 0,
+        target_access: 0,
+        level: 0,
+        ..*entry
+    }
+}
+
+// Whether two entries differ in their accesses and the level alone.
+fn have_one_ground(a: &Dep, b: &Dep) -> bool
+    ensures { IsTrue result → spec.without_accesses a.now ≡ spec.without_accesses b.now }
+{
+    without_accesses(a) == without_accesses(b)
+}
+
+// The base of an entry, which is not reduced yet, from its rows that do not speak of accesses.
+fn base_over(scop: &Scop, pieces: &Pieces, entry: &Dep, ground: Part) -> Result<Base, ElimFail>
+    requires own { pieces.now ≡ own_originals scop.now }
+    requires listed { In entry.now (entries (own_sides scop.now)) }
+    requires ground { ground ≡ ground_of (pairing_of scop.now.context (own_sides scop.now) entry.now) }
+    ensures base { IfOk result (spec.IsBaseOf scop.now.context (own_sides scop.now) entry.now) }
+    ensures cause { IfErr result (FailsOne scop.now.context (own_sides scop.now) entry.now) }
+{
+    let pairing = own_pairing(scop, pieces, entry);
+    let rows = ground.row_count();
+    let mut part = ground;
+    match pairing.push_subscripts(&mut part) {
+        Err(RowFail::Memory) => Err(ElimFail::Memory),
+        Err(RowFail::Overflow) => Err(ElimFail::Overflow),
+        Ok(()) => Ok(Base {
+            entry: *entry,
+            ground: rows,
+            count: part.row_count(),
+            part,
+            reduced: None,
+        }),
+    }
 }
 
 // The base of an entry, which is not reduced yet.
@@ -71,19 +127,14 @@ fn new_base(alloc: Global, scop: &Scop, pieces: &Pieces, entry: &Dep) -> Result<
     ensures cause { IfErr result (FailsOne scop.now.context (own_sides scop.now) entry.now) }
 {
     let pairing = own_pairing(scop, pieces, entry);
-    match pairing.base(alloc) {
-        Err(RowFail::Memory) => Err(ElimFail::Memory),
-        Err(RowFail::Overflow) => Err(ElimFail::Overflow),
-        Ok(part) => Ok(Base {
-            entry: *entry,
-            count: part.row_count(),
-            part,
-            reduced: None,
-        }),
+    match pairing.ground(alloc) {
+        Err(NoMemory) => Err(ElimFail::Memory),
+        Ok(ground) => base_over(scop, pieces, entry, ground),
     }
 }
 
-// The base of an entry: the one at hand where the two entries differ in the level alone, else a new one.
+// The base of an entry: the one at hand where the two entries differ in the level alone, else a new one, over
+// the rows at hand where they differ in their accesses too.
 fn base_for(
     alloc: Global,
     scop: &Scop,
@@ -102,6 +153,9 @@ fn base_for(
         Some(base) => {
             if have_one_base(&base.entry, entry) {
                 return Ok(base);
+            }
+            if have_one_ground(&base.entry, entry) {
+                return base_over(scop, pieces, entry, base.ground_alone());
             }
             new_base(alloc, scop, pieces, entry)
         }
@@ -243,15 +297,7 @@ pub fn decided_entry(
 {
     let mut base = base_for(alloc, scop, pieces, entry, held)?;
     let reduced = base.reduced.take();
-    let found = decide_level(
-        alloc,
-        scop,
-        pieces,
-        entry,
-        reduced,
-        search,
-        &mut base.part,
-    )?;
+    let found = decide_level(alloc, scop, pieces, entry, reduced, search, &mut base.part)?;
     base.reduced = found.reduced;
     Ok(Level {
         base,
