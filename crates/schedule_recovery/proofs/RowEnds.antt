@@ -1,8 +1,7 @@
--- The last entry that isn't 0 of a row that grows.
-use Rattle.std.proofs.Common.{◌≡◌, ℤ, pos, ℕ, ◌+◌, ◌<◌, Bool, true, false, if◌then◌else◌, ◌&&◌, inl, inr, List, [], ◌∷◌, ◌++◌, length, take, get_or, refl, sym, ◌∙◌, ap, arith}
+-- The last entry that isn't 0 of a row that is walked from its end.
+use Rattle.std.proofs.Common.{◌≡◌, ℤ, pos, ℕ, ◌+◌, ◌-◌, ◌<◌, ◌≤◌, Bool, true, false, ◌&&◌, List, [], ◌∷◌, ◌++◌, length, take, get_or, refl, sym, ◌∙◌, ap, arith}
 use Rattle.std.specs.Ordering.{int_eq}
 use Rattle.std.proofs.lemmas.List.{length-take-le, take_more}
-use Rattle.beta_tree.proofs.Places.{bool_tells}
 use Rattle.chlore_recover.specs.Triangles.{is_zero, last_place, last_value}
 use Rattle.chlore_recover.proofs.Ends.{int_yes}
 
@@ -44,19 +43,27 @@ pub value_moves : (row : List ℤ) (z : ℤ) → int_eq z (pos 0) ≡ false → 
 value_moves [] z e = refl
 value_moves (x ∷ row) z e = rw (no_zero row z e, value_moves row z e) refl
 
-pub place_more : (k place now : ℕ) (x : ℤ) (row : List ℤ) → k < length row → x ≡ get_or row k x → place ≡ last_place (take k row) → now ≡ (if int_eq x (pos 0) then place else k) → now ≡ last_place (take (k + 1) row)
-place_more k place now x row l is e h =
-    let here : take (k + 1) row ≡ take k row ++ x ∷ [] = take_more row k x l ∙ ap (λ z. take k row ++ z ∷ []) (sym is) in
-    let long : length (take k row) ≡ k = length-take-le k row (omega arith) in
-    elim (bool_tells (int_eq x (pos 0))) [
-      | inl t ↦ h ∙ (ap (λ b. if b then place else k) t ∙ (e ∙ (sym (place_stays (take k row) x t) ∙ ap last_place (sym here))))
-      | inr f ↦ h ∙ (ap (λ b. if b then place else k) f ∙ (sym long ∙ (sym (place_moves (take k row) x f) ∙ ap last_place (sym here))))
-    ]
+cut_more : (left : ℕ) (x : ℤ) (row : List ℤ) → 0 < left → left ≤ length row → x ≡ get_or row (left - 1) x → take left row ≡ take (left - 1) row ++ x ∷ []
+cut_more left x row some l is =
+    let up : left ≡ left - 1 + 1 = omega arith in
+    ap (λ k. take k row) up ∙ (take_more row (left - 1) x (omega arith) ∙ ap (λ z. take (left - 1) row ++ z ∷ []) (sym is))
 
-pub value_more : (k : ℕ) (x last now : ℤ) (row : List ℤ) → k < length row → x ≡ get_or row k x → last ≡ last_value (take k row) → now ≡ (if int_eq x (pos 0) then last else x) → now ≡ last_value (take (k + 1) row)
-value_more k x last now row l is e h =
-    let here : take (k + 1) row ≡ take k row ++ x ∷ [] = take_more row k x l ∙ ap (λ z. take k row ++ z ∷ []) (sym is) in
-    elim (bool_tells (int_eq x (pos 0))) [
-      | inl t ↦ h ∙ (ap (λ b. if b then last else x) t ∙ (e ∙ (sym (value_stays (take k row) x t) ∙ ap last_value (sym here))))
-      | inr f ↦ h ∙ (ap (λ b. if b then last else x) f ∙ (sym (value_moves (take k row) x f) ∙ ap last_value (sym here)))
-    ]
+cut_long : (left : ℕ) (row : List ℤ) → left ≤ length row → length (take (left - 1) row) ≡ left - 1
+cut_long left row l = length-take-le (left - 1) row (omega arith)
+
+-- the entry before a place, with what is known of the row up to there
+
+pub place_before : (left : ℕ) (x : ℤ) (row : List ℤ) → 0 < left → left ≤ length row → x ≡ get_or row (left - 1) x → int_eq x (pos 0) ≡ true → last_place (take left row) ≡ last_place row
+    → last_place (take (left - 1) row) ≡ last_place row
+place_before left x row some l is t h = sym (place_stays (take (left - 1) row) x t) ∙ (ap last_place (sym (cut_more left x row some l is)) ∙ h)
+
+pub place_here : (left : ℕ) (x : ℤ) (row : List ℤ) → 0 < left → left ≤ length row → x ≡ get_or row (left - 1) x → int_eq x (pos 0) ≡ false → last_place (take left row) ≡ last_place row → left - 1 ≡ last_place row
+place_here left x row some l is f h =
+    sym (cut_long left row l) ∙ (sym (place_moves (take (left - 1) row) x f) ∙ (ap last_place (sym (cut_more left x row some l is)) ∙ h))
+
+pub value_before : (left : ℕ) (x : ℤ) (row : List ℤ) → 0 < left → left ≤ length row → x ≡ get_or row (left - 1) x → int_eq x (pos 0) ≡ true → last_value (take left row) ≡ last_value row
+    → last_value (take (left - 1) row) ≡ last_value row
+value_before left x row some l is t h = sym (value_stays (take (left - 1) row) x t) ∙ (ap last_value (sym (cut_more left x row some l is)) ∙ h)
+
+pub value_here : (left : ℕ) (x : ℤ) (row : List ℤ) → 0 < left → left ≤ length row → x ≡ get_or row (left - 1) x → int_eq x (pos 0) ≡ false → last_value (take left row) ≡ last_value row → x ≡ last_value row
+value_here left x row some l is f h = sym (value_moves (take (left - 1) row) x f) ∙ (ap last_value (sym (cut_more left x row some l is)) ∙ h)

@@ -1,6 +1,6 @@
 //! Rows of coefficients: where they end, and where they are 0.
 
-ghost use Rattle.std.specs.Prelude.{◌≡◌, if◌then◌else◌, map, pos, IfOk};
+ghost use Rattle.std.specs.Prelude.{◌≡◌, map, pos, IfOk};
 ghost use Rattle.std.specs.Ordering.{int_eq};
 ghost use Rattle.chlore_recover.specs.Recoverable.{rows_of};
 ghost use Rattle.chlore_recover.specs.Refusals as refusal;
@@ -30,47 +30,47 @@ pub fn is_sign(value: Coeff) -> bool
     value.value() == 1 || value.value() == -1
 }
 
-// The place of the last entry that isn't 0, with one entry more.
-fn later_place(k: usize, value: Coeff, place: usize) -> usize
-    ensures { result ≡ (if int_eq value (pos 0) then place else k) }
+// Whether a number is 0.
+fn is_nothing(value: Coeff) -> bool
+    ensures { result ≡ int_eq value (pos 0) }
 {
-    if value.value() == 0 { place } else { k }
+    value.value() == 0
 }
 
 /// The place of the last entry that isn't 0, and 0 where there is none.
 pub fn last_place(row: &[Coeff]) -> usize
     ensures { result ≡ triangle.last_place row.now }
 {
-    let mut place = 0;
-    for k in 0..row.len() {
-        place = later_place(k, row[k], place);
+    let mut left = row.len();
+    while left > 0 {
+        left -= 1;
+        if !is_nothing(row[left]) {
+            return left;
+        }
     }
-    place
-}
-
-// The last entry that isn't 0, with one entry more.
-fn later_value(value: Coeff, last: Coeff) -> Coeff
-    ensures { result ≡ (if int_eq value (pos 0) then last else value) }
-{
-    if value.value() == 0 { last } else { value }
+    0
 }
 
 /// The last entry that isn't 0, and 0 where there is none.
 pub fn last_value(row: &[Coeff]) -> Coeff
     ensures { result ≡ triangle.last_value row.now }
 {
-    let mut last = Coeff::ZERO;
-    for k in 0..row.len() {
-        last = later_value(row[k], last);
+    let mut left = row.len();
+    while left > 0 {
+        left -= 1;
+        let value = row[left];
+        if !is_nothing(value) {
+            return value;
+        }
     }
-    last
+    Coeff::ZERO
 }
 
 /// The place where each level's coefficients of iterators end.
 pub fn last_places(alloc: Global, levels: &[Affine]) -> Result<List<usize>, NoMemory>
     ensures { IfOk result (λ places. places ≡ map triangle.last_place (rows_of levels.now)) }
 {
-    let mut places = List::new(alloc);
+    let mut places = List::with_capacity(alloc, levels.len())?;
     for level in levels {
         let place = last_place(level.iterators());
         places.push(place)?;

@@ -1,5 +1,15 @@
-use Rattle.schedule_recovery.proofs.RowEnds.{place_more}
+use Rattle.std.proofs.Common.{sym, ◌∙◌, arith}
+use Rattle.schedule_recovery.proofs.RowEnds.{place_before, place_here}
 use Rattle.schedule_recovery.proofs.rows.last_place.Goals as goal
 
-pub loop-k-preserved : goal.loop-k-preserved
-loop-k-preserved c = place_more c.loop-k.k c.loop-k.place _ c.index-row-k.result c.args.row.now c.loop-k-test.true c.index-row-k.is c.loop-k.invariant c.later_place-place.ensures
+pub returns-then-not-is_nothing : goal.returns-then-not-is_nothing
+returns-then-not-is_nothing c =
+    place_here c.loop-left.left c.index-row-left.result c.args.row.now c.loop-left-test.true c.loop-left.invariant.within c.index-row-left.is (sym c.is_nothing.ensures ∙ c.if-not-is_nothing.true) c.loop-left.invariant.so_far
+
+pub loop-left-preserved : goal.loop-left-preserved
+loop-left-preserved c =
+    let l = c.loop-left.invariant.within in
+    record {
+      within = omega (arith, l);
+      so_far = place_before c.loop-left.left c.index-row-left.result c.args.row.now c.loop-left-test.true l c.index-row-left.is (sym c.is_nothing.ensures ∙ c.if-not-is_nothing.false) c.loop-left.invariant.so_far;
+    }
