@@ -4,6 +4,7 @@ pub mod RowEnds
 pub mod Endings
 pub mod Skewing
 pub mod Exchanges
+pub mod Falling
 pub mod LevelSteps
 pub mod PassSteps
 pub mod Ready

@@ -1,3 +1,4 @@
 -- How the script is found, and when its search ends early.
+pub mod Falling
 pub mod Lengths
 pub mod Steps
