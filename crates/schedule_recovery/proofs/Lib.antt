@@ -5,6 +5,7 @@ pub mod Endings
 pub mod Skewing
 pub mod Exchanges
 pub mod Falling
+pub mod Ranks
 pub mod LevelSteps
 pub mod PassSteps
 pub mod Ready
