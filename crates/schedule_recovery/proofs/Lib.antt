@@ -7,6 +7,7 @@ pub mod Exchanges
 pub mod Falling
 pub mod Ranks
 pub mod LevelSteps
+pub mod Agreements
 pub mod PassSteps
 pub mod Ready
 pub mod Wholes

@@ -1,4 +1,5 @@
 -- How the script is found, and when its search ends early.
+pub mod Agreements
 pub mod Falling
 pub mod Lengths
 pub mod Ranks

@@ -181,7 +181,7 @@ fn push_second_reverses(
 fn numbers_below(alloc: Global, count: usize) -> Result<Vec<usize>, NoMemory>
     ensures { IfOk result (λ made. made.items ≡ range_with_len 0 count) }
 {
-    let mut made = Vec::new(alloc);
+    let mut made = Vec::with_capacity(alloc, count)?;
     for k in 0..count {
         made.push(k)?;
     }

@@ -5,6 +5,7 @@ ghost use Rattle.std.specs.Prelude.{◌≡◌, ◌++◌, ◌∷◌, ◌+◌, ◌
 ghost use Rattle.suite_base.specs.Limits.{max_commands, max_statements};
 ghost use Rattle.chlore_recover.specs.Orders.{vectors_of};
 ghost use Rattle.chlore_recover.specs.Strategy as strategy;
+ghost use Rattle.schedule_recovery.specs.Agreements.{most_from};
 ghost use Rattle.schedule_recovery.specs.Lengths.{IsTooLong};
 ghost use Rattle.chlore_recover.specs.Passes as pass;
 
@@ -81,6 +82,20 @@ fn push_parts(
     Ok(())
 }
 
+// In how many first entries two neighbours agree at most.
+fn most_agreement(first: &[u32], rest: &[Placed]) -> usize
+    ensures { result ≡ most_from 0 first.now (vectors_of rest.now) }
+{
+    let mut vector = first;
+    let mut most = 0;
+    for placed in rest {
+        let next = placed.vector();
+        most = agreement(vector, next).max(most);
+        vector = next;
+    }
+    most
+}
+
 // Appends the fissions between neighbours, of the longest loops first.
 fn push_all_parts(
     alloc: Global,
@@ -92,7 +107,7 @@ fn push_all_parts(
     ensures ok { OnOk result (script.new ≡ script.old ++ pass.as_fissions (pass.all_parted 24 first.now (vectors_of rest.now))) }
     ensures err { IfErr result (IsTooLong (script.old ++ pass.as_fissions (pass.all_parted 24 first.now (vectors_of rest.now)))) }
 {
-    let mut size = MAX_LEVELS;
+    let mut size = most_agreement(first, rest).min(MAX_LEVELS);
     while size > 0 {
         push_parts(alloc, size, first, rest, script)?;
         check_length(script)?;
@@ -150,7 +165,11 @@ fn push_all_joins(
     ensures err { IfErr result (IsTooLong (script.old ++ strategy.fuses (first.now ∷ vectors_of rest.now))) }
     ensures short { OnOk result (length script.new ≤ max_commands) }
 {
+    let most = most_agreement(first, rest);
     for k in 0..MAX_LEVELS {
+        if k >= most {
+            return Ok(());
+        }
         push_joins(alloc, k + 1, first, rest, script)?;
         check_length(script)?;
     }
