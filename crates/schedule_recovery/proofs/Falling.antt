@@ -149,7 +149,6 @@ falls_at (f ∷ fs) i zero d h l m = absurd (omega arith)
 falls_at (f ∷ fs) zero (suc j) d (a, h) l m = falls_first f fs j d a (omega arith)
 falls_at (f ∷ fs) (suc i) (suc j) d (a, h) l m = falls_at fs i j d h (omega arith) (omega arith)
 
-
 -- a statement is before those in front of place low, and not before those from place high on
 pub record Between (e : Placed) (fs : List Placed) (low high : ℕ) : Type 0 where
   pub within : low ≤ high

@@ -13,9 +13,9 @@ pub ranks_none : (numbers ranks : List ℕ) (n : ℕ) → ranks ≡ replicate n 
 ranks_none numbers ranks n e =
     subst (AreRanksFrom (length numbers) numbers) (sym e)
     (λ p d l.
-      let size = length-replicate n (length numbers) in
-      let none : place_of p (drop (length numbers) numbers) ≡ 0 = ap (place_of p) (drop_all (length numbers) numbers (omega arith)) in
-      get_or-replicate n p (length numbers) d (omega (arith, l, size)) ∙ omega (arith, none))
+    let size = length-replicate n (length numbers) in
+    let none : place_of p (drop (length numbers) numbers) ≡ 0 = ap (place_of p) (drop_all (length numbers) numbers (omega arith)) in
+    get_or-replicate n p (length numbers) d (omega (arith, l, size)) ∙ omega (arith, none))
 
 -- the number before place left
 before : (left x : ℕ) (numbers : List ℕ) → 0 < left → left ≤ length numbers → x ≡ get_or numbers (left - 1) x → drop (left - 1) numbers ≡ x ∷ drop left numbers

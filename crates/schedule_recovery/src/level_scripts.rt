@@ -8,10 +8,12 @@ ghost use Rattle.chlore_recover.specs.LevelScripts as forms;
 ghost use Rattle.chlore_recover.specs.Recoverable.{rows_of, triangle_of};
 ghost use Rattle.chlore_recover.specs.Triangles as triangle;
 ghost use Rattle.schedule_recovery.specs.Lengths.{EndApart};
+ghost use Rattle.schedule_recovery.specs.Ranks.{AreRanks};
 ghost use Rattle.schedule_recovery.specs.Steps as step;
 
 use crate::lookups::place_of;
 use crate::pushes::{push_interchange, push_reverse, push_shift, push_skew};
+use crate::rank_tables::{rank_of, ranks_of};
 use crate::rows::{is_zero, last_places, last_value};
 use clay_script::Script;
 use row_core::Coeff;
@@ -106,15 +108,17 @@ fn push_skews_at(
     place: usize,
     levels: &[Affine],
     places: &[usize],
+    ranks: &[usize],
     script: &mut Script,
 ) -> Result<(), NoMemory>
     requires small { place < length levels.now }
     requires signs { triangle.end_in_signs (rows_of levels.now) ≡ true }
     requires places { places.now ≡ map triangle.last_place (rows_of levels.now) }
+    requires ranks { AreRanks places.now ranks.now }
     ensures { let row = triangle.row_ending_at place (rows_of levels.now) in
         OnOk result (script.new ≡ script.old ++ forms.row_skews (pos number ∷ []) (place + 1) 1 (take place row)) }
 {
-    let k = place_of(place, places);
+    let k = rank_of(place, places, ranks);
     if k >= levels.len() {
         return Ok(());
     }
@@ -131,27 +135,30 @@ fn push_skews(
     number: u32,
     levels: &[Affine],
     places: &[usize],
+    ranks: &[usize],
     script: &mut Script,
 ) -> Result<(), NoMemory>
     requires signs { triangle.end_in_signs (rows_of levels.now) ≡ true }
     requires places { places.now ≡ map triangle.last_place (rows_of levels.now) }
+    requires ranks { AreRanks places.now ranks.now }
     ensures { let rows = triangle_of (length levels.now) (rows_of levels.now) in
         OnOk result (script.new ≡ script.old ++ forms.skews (pos number ∷ []) 1 rows) }
 {
     let mut left = levels.len();
     while left > 0 {
         left -= 1;
-        push_skews_at(alloc, number, left, levels, places, script)?;
+        push_skews_at(alloc, number, left, levels, places, ranks, script)?;
     }
     Ok(())
 }
 
 // The sign of the row that ends at this place, and 0 where none does.
-fn sign_at(place: usize, levels: &[Affine], places: &[usize]) -> Coeff
-    requires { places.now ≡ map triangle.last_place (rows_of levels.now) }
+fn sign_at(place: usize, levels: &[Affine], places: &[usize], ranks: &[usize]) -> Coeff
+    requires places { places.now ≡ map triangle.last_place (rows_of levels.now) }
+    requires ranks { AreRanks places.now ranks.now }
     ensures { result ≡ triangle.sign_at place (rows_of levels.now) }
 {
-    let k = place_of(place, places);
+    let k = rank_of(place, places, ranks);
     if k >= levels.len() {
         return Coeff::ZERO;
     }
@@ -164,14 +171,16 @@ fn push_second_reverses(
     number: u32,
     levels: &[Affine],
     places: &[usize],
+    ranks: &[usize],
     script: &mut Script,
 ) -> Result<(), NoMemory>
-    requires { places.now ≡ map triangle.last_place (rows_of levels.now) }
+    requires places { places.now ≡ map triangle.last_place (rows_of levels.now) }
+    requires ranks { AreRanks places.now ranks.now }
     ensures { let all = range_with_len 0 (length levels.now) in
         OnOk result (script.new ≡ script.old ++ forms.second_reverses (pos number ∷ []) all (rows_of levels.now)) }
 {
     for k in 0..levels.len() {
-        let sign = sign_at(k, levels, places);
+        let sign = sign_at(k, levels, places, ranks);
         push_reverse_where(alloc, number, k + 1, sign, script)?;
     }
     Ok(())
@@ -273,9 +282,24 @@ pub fn push_level_script(
     ensures { OnOk result (script.new ≡ script.old ++ forms.level_script (pos number ∷ []) original.now target.now) }
 {
     let places = last_places(alloc, target)?;
+    let ranks = ranks_of(alloc, places.as_slice())?;
     push_first_reverses(alloc, number, original, script)?;
-    push_skews(alloc, number, target, places.as_slice(), script)?;
-    push_second_reverses(alloc, number, target, places.as_slice(), script)?;
+    push_skews(
+        alloc,
+        number,
+        target,
+        places.as_slice(),
+        ranks.as_slice(),
+        script,
+    )?;
+    push_second_reverses(
+        alloc,
+        number,
+        target,
+        places.as_slice(),
+        ranks.as_slice(),
+        script,
+    )?;
     push_interchanges(alloc, number, places.as_slice(), script)?;
     push_shifts(alloc, number, target, script)
 }

@@ -9,6 +9,7 @@ mod orders;
 mod passes;
 mod prefixes;
 mod pushes;
+mod rank_tables;
 mod recovering;
 mod rows;
 

@@ -1,15 +1,14 @@
 //! The reorder of statements that stand alone.
 
-ghost use Rattle.std.specs.Prelude.{◌≡◌, ◌++◌, length, map, replicate, true, false, IfOk, OnOk};
+ghost use Rattle.std.specs.Prelude.{◌≡◌, ◌++◌, length, map, true, false, IfOk, OnOk};
 ghost use Rattle.std.specs.List.{range_with_len};
 ghost use Rattle.beta_tree.specs.Edits as edit;
 ghost use Rattle.beta_tree.specs.Edits.{same_vector};
 ghost use Rattle.chlore_recover.specs.Strategy as strategy;
-ghost use Rattle.schedule_recovery.specs.Ranks.{AreRanks};
 
 use crate::beta_orders::Placed;
-use crate::lookups::place_of;
 use crate::pushes::push_reorder;
+use crate::rank_tables::{rank_of, ranks_of};
 use clay_script::Script;
 use std::alloc::Global;
 use suite_base::{List, NoMemory};
@@ -23,44 +22,6 @@ fn places_in(alloc: Global, placed: &[Placed]) -> Result<List<usize>, NoMemory>
         made.push(one.place())?;
     }
     Ok(made)
-}
-
-// A list of a number so many times.
-fn filled(alloc: Global, count: usize, number: usize) -> Result<List<usize>, NoMemory>
-    ensures { IfOk result (λ made. made ≡ replicate count number) }
-{
-    let mut made = List::with_capacity(alloc, count)?;
-    for k in 0..count {
-        made.push(number)?;
-    }
-    Ok(made)
-}
-
-// The rank among these places of each place below their count.
-fn ranks_of(alloc: Global, places: &[usize]) -> Result<List<usize>, NoMemory>
-    ensures { IfOk result (λ ranks. AreRanks places.now ranks) }
-{
-    let mut ranks = filled(alloc, places.len(), places.len())?;
-    let mut left = places.len();
-    while left > 0 {
-        left -= 1;
-        let place = places[left];
-        if place < ranks.len() {
-            ranks.set(place, left);
-        }
-    }
-    Ok(ranks)
-}
-
-// The rank of a place among these, whose ranks are known.
-fn rank_of(place: usize, places: &[usize], ranks: &[usize]) -> usize
-    requires { AreRanks places.now ranks.now }
-    ensures { result ≡ edit.place_of place places.now }
-{
-    if place < ranks.len() {
-        return ranks[place];
-    }
-    place_of(place, places)
 }
 
 // For each of the target's statements, in its order, the rank of its place among these.

@@ -1,6 +1,6 @@
 use Rattle.std.proofs.Common.{◌≤◌, length}
 use Rattle.schedule_recovery.proofs.Ranks.{AreRanksFrom}
-use Rattle.schedule_recovery.proofs.orders.ranks_of.Given as goal
+use Rattle.schedule_recovery.proofs.rank_tables.ranks_of.Given as goal
 
 abbrev pub invariant-loop-left : goal.invariant-loop-left
 invariant-loop-left l = record {
