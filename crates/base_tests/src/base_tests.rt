@@ -65,8 +65,8 @@ fn refusals_have_numbers(rt: HostRuntime) {
         (Refusal::BadCertificate(0), 29, "BadCertificate"),
     ];
     for (refusal, number, name) in &cases {
-        assert_eq!(rt; refusal.number(), *number);
-        assert_eq!(rt; refusal.name(), *name);
+        assert_eq!(rt; refusal.entry().number, *number);
+        assert_eq!(rt; refusal.entry().name, *name);
     }
     assert_ne!(rt; Fail::Memory, Fail::Refused(Refusal::TooLong));
 }

@@ -5,3 +5,5 @@ pub mod Words
 pub mod Refusals
 pub mod Limits
 pub mod Bytes
+pub mod Sequences
+pub mod Results

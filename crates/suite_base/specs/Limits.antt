@@ -53,6 +53,10 @@ max_commands = 4096
 abbrev pub max_systems : ℕ
 max_systems = 65536
 
+-- outputs, inputs, locals or parameters of a relation as it is read or built, before its own limit is asked
+abbrev pub max_dimensions : ℕ
+max_dimensions = 65536
+
 -- the absolute value of a coefficient, and the weight of a sum
 abbrev pub max_weight : ℕ
 max_weight = 2 ^ 127 - 1

@@ -23,9 +23,9 @@ mod writing;
 
 pub use file_reading::read_file;
 pub use limits::{
-    MAX_ACCESSES, MAX_ARRAYS, MAX_COMMANDS, MAX_INPUT, MAX_ITERATORS, MAX_LEVELS, MAX_LOCALS,
-    MAX_LOOPS, MAX_NESTS, MAX_PARAMETERS, MAX_PARTS, MAX_ROWS, MAX_STAGE_ROWS, MAX_STATEMENTS,
-    MAX_SUBSCRIPTS, MAX_SYSTEMS, MAX_WEIGHT, limits_agree,
+    MAX_ACCESSES, MAX_ARRAYS, MAX_COMMANDS, MAX_DIMENSIONS, MAX_INPUT, MAX_ITERATORS, MAX_LEVELS,
+    MAX_LOCALS, MAX_LOOPS, MAX_NESTS, MAX_PARAMETERS, MAX_PARTS, MAX_ROWS, MAX_STAGE_ROWS,
+    MAX_STATEMENTS, MAX_SUBSCRIPTS, MAX_SYSTEMS, MAX_WEIGHT, limits_agree,
 };
 pub use line_cursors::{Lines, is_blank_byte, trimmed, trimmed_front};
 pub use lists::List;
@@ -36,7 +36,7 @@ pub use numbers::{NumberRead, are_all_digits, is_digit_byte, read_number};
 pub use outside::{Failed, Files, Sink, Source};
 pub use places::Place;
 pub use reading::{ReadFail, read_all};
-pub use refusals::{Fail, Refusal, Where, Which};
+pub use refusals::{Entry, Fail, Fields, Refusal, Where, Which};
 pub use sure_fakes::{SureFiles, SureSink, SureSource};
 pub use texts::Text;
 pub use word_lists::WordList;

@@ -42,6 +42,9 @@ pub const MAX_COMMANDS: usize = 4_096;
 /// The most dependence systems of a SCoP.
 pub const MAX_SYSTEMS: usize = 65_536;
 
+/// The most outputs, inputs, locals or parameters of a relation as it is read or built, before its own limit is asked.
+pub const MAX_DIMENSIONS: usize = 65_536;
+
 /// The greatest absolute value of a coefficient, and the greatest weight of a sum: 2^127 - 1.
 pub const MAX_WEIGHT: u128 = 170_141_183_460_469_231_731_687_303_715_884_105_727;
 
@@ -69,6 +72,7 @@ pub fn limits_agree()
     ensures arrays { MAX_ARRAYS ≡ spec.max_arrays }
     ensures commands { MAX_COMMANDS ≡ spec.max_commands }
     ensures systems { MAX_SYSTEMS ≡ spec.max_systems }
+    ensures dimensions { MAX_DIMENSIONS ≡ spec.max_dimensions }
     ensures weight { MAX_WEIGHT ≡ spec.max_weight }
     ensures stage_rows { MAX_STAGE_ROWS ≡ spec.max_stage_rows }
     ensures nests { MAX_NESTS ≡ spec.max_nests }

@@ -47,6 +47,69 @@ pub enum Which {
     Systems,
 }
 
+impl Where {
+    /// What the number counts, in lower-case letters.
+    pub fn name(&self) -> &'static str
+        ensures { result.now ≡ spec.where_name self.now }
+    {
+        match self {
+            Where::Statement => "statement",
+            Where::Command => "command",
+            Where::System => "system",
+        }
+    }
+}
+
+impl Which {
+    /// The count that passed its limit, in lower-case letters.
+    pub fn name(&self) -> &'static str
+        ensures { result.now ≡ spec.which_name self.now }
+    {
+        match self {
+            Which::Statements => "statements",
+            Which::Iterators => "iterators",
+            Which::Parameters => "parameters",
+            Which::Levels => "levels",
+            Which::Locals => "locals",
+            Which::Rows => "rows",
+            Which::Parts => "parts",
+            Which::Accesses => "accesses",
+            Which::Subscripts => "subscripts",
+            Which::Arrays => "arrays",
+            Which::Commands => "commands",
+            Which::Systems => "systems",
+        }
+    }
+}
+
+/// The fields of a refusal, as messages print them: numbers, and what a number counts.
+#[derive(Clone, Copy, Debug)]
+pub enum Fields {
+    NoFields,
+    One(u32),
+    Two(u32, u32),
+    Counted(&'static str, u32),
+}
+
+/// What messages say of a refusal: its number, its name and its fields.
+#[derive(Clone, Copy, Debug)]
+pub struct Entry {
+    pub number: u8,
+    pub name: &'static str,
+    pub fields: Fields,
+}
+
+// An entry of the list of refusals.
+fn told(number: u8, name: &'static str, fields: Fields) -> Entry
+    ensures { spec.said_by result ≡ spec.said number name.now (spec.fields_text fields) }
+{
+    Entry {
+        number,
+        name,
+        fields,
+    }
+}
+
 /// A named refusal of an input. Lines, statements, commands and systems count from 1; 0 stands for
 /// the whole. `docs/REFUSALS.md` has the number, the fields and the cause of each.
 #[derive(Clone, Copy, Debug, PartialEq, Eq)]
@@ -110,75 +173,60 @@ pub enum Refusal {
 }
 
 impl Refusal {
-    /// The number by which messages name the refusal, from 1. 16 is not used.
-    pub fn number(&self) -> u8
-        ensures { result ≡ spec.number_of self.now }
+    /// The list of refusals: the number, the name and the fields of each. Numbers are never moved; 16 and
+    /// 30 are no refusal's. The fields of a place are its line and its column.
+    pub fn entry(&self) -> Entry
+        ensures { spec.said_by result ≡ spec.entry_of self.now }
     {
         match self {
-            Refusal::TooLong => 1,
-            Refusal::NoRegion => 2,
-            Refusal::OpenRegion(_) => 3,
-            Refusal::SecondRegion(_) => 4,
-            Refusal::BadToken(_) => 5,
-            Refusal::BadSyntax(_) => 6,
-            Refusal::TooDeep(_) => 7,
-            Refusal::NotAffine(_) => 8,
-            Refusal::NameClash(_) => 9,
-            Refusal::TooManyParts(_) => 10,
-            Refusal::BadScop(_) => 11,
-            Refusal::NumberTooLarge(_) => 12,
-            Refusal::SecondScop(_) => 13,
-            Refusal::NotSolved(_) => 14,
-            Refusal::BetaClash(_, _) => 15,
-            Refusal::Limit(_, _) => 17,
-            Refusal::BadScript(_) => 18,
-            Refusal::NoBeta(_) => 19,
-            Refusal::BadLevel(_) => 20,
-            Refusal::BadArgument(_) => 21,
-            Refusal::NotALoop(_) => 22,
-            Refusal::Overflow(_, _) => 23,
-            Refusal::TooManyRows(_) => 24,
-            Refusal::Illegal(_) => 25,
-            Refusal::Different(_) => 26,
-            Refusal::NotClanForm(_) => 27,
-            Refusal::NotRecoverable(_) => 28,
-            Refusal::BadCertificate(_) => 29,
-        }
-    }
-
-    /// The name by which messages name the refusal.
-    pub fn name(&self) -> &'static str
-        ensures { result.now ≡ spec.name_of self.now }
-    {
-        match self {
-            Refusal::TooLong => "TooLong",
-            Refusal::NoRegion => "NoRegion",
-            Refusal::OpenRegion(_) => "OpenRegion",
-            Refusal::SecondRegion(_) => "SecondRegion",
-            Refusal::BadToken(_) => "BadToken",
-            Refusal::BadSyntax(_) => "BadSyntax",
-            Refusal::TooDeep(_) => "TooDeep",
-            Refusal::NotAffine(_) => "NotAffine",
-            Refusal::NameClash(_) => "NameClash",
-            Refusal::TooManyParts(_) => "TooManyParts",
-            Refusal::BadScop(_) => "BadScop",
-            Refusal::NumberTooLarge(_) => "NumberTooLarge",
-            Refusal::SecondScop(_) => "SecondScop",
-            Refusal::NotSolved(_) => "NotSolved",
-            Refusal::BetaClash(_, _) => "BetaClash",
-            Refusal::Limit(_, _) => "Limit",
-            Refusal::BadScript(_) => "BadScript",
-            Refusal::NoBeta(_) => "NoBeta",
-            Refusal::BadLevel(_) => "BadLevel",
-            Refusal::BadArgument(_) => "BadArgument",
-            Refusal::NotALoop(_) => "NotALoop",
-            Refusal::Overflow(_, _) => "Overflow",
-            Refusal::TooManyRows(_) => "TooManyRows",
-            Refusal::Illegal(_) => "Illegal",
-            Refusal::Different(_) => "Different",
-            Refusal::NotClanForm(_) => "NotClanForm",
-            Refusal::NotRecoverable(_) => "NotRecoverable",
-            Refusal::BadCertificate(_) => "BadCertificate",
+            Refusal::TooLong => told(1, "TooLong", Fields::NoFields),
+            Refusal::NoRegion => told(2, "NoRegion", Fields::NoFields),
+            Refusal::OpenRegion(n) => told(3, "OpenRegion", Fields::One(*n)),
+            Refusal::SecondRegion(n) => told(4, "SecondRegion", Fields::One(*n)),
+            Refusal::BadToken(place) => told(5, "BadToken", Fields::Two(place.line, place.column)),
+            Refusal::BadSyntax(place) => told(
+                6,
+                "BadSyntax",
+                Fields::Two(place.line, place.column),
+            ),
+            Refusal::TooDeep(place) => told(7, "TooDeep", Fields::Two(place.line, place.column)),
+            Refusal::NotAffine(place) => told(
+                8,
+                "NotAffine",
+                Fields::Two(place.line, place.column),
+            ),
+            Refusal::NameClash(place) => told(
+                9,
+                "NameClash",
+                Fields::Two(place.line, place.column),
+            ),
+            Refusal::TooManyParts(n) => told(10, "TooManyParts", Fields::One(*n)),
+            Refusal::BadScop(n) => told(11, "BadScop", Fields::One(*n)),
+            Refusal::NumberTooLarge(place) => told(
+                12,
+                "NumberTooLarge",
+                Fields::Two(place.line, place.column),
+            ),
+            Refusal::SecondScop(n) => told(13, "SecondScop", Fields::One(*n)),
+            Refusal::NotSolved(n) => told(14, "NotSolved", Fields::One(*n)),
+            Refusal::BetaClash(i, j) => told(15, "BetaClash", Fields::Two(*i, *j)),
+            Refusal::Limit(which, n) => told(17, "Limit", Fields::Counted(which.name(), *n)),
+            Refusal::BadScript(place) => told(
+                18,
+                "BadScript",
+                Fields::Two(place.line, place.column),
+            ),
+            Refusal::NoBeta(n) => told(19, "NoBeta", Fields::One(*n)),
+            Refusal::BadLevel(n) => told(20, "BadLevel", Fields::One(*n)),
+            Refusal::BadArgument(n) => told(21, "BadArgument", Fields::One(*n)),
+            Refusal::NotALoop(n) => told(22, "NotALoop", Fields::One(*n)),
+            Refusal::Overflow(place, n) => told(23, "Overflow", Fields::Counted(place.name(), *n)),
+            Refusal::TooManyRows(n) => told(24, "TooManyRows", Fields::One(*n)),
+            Refusal::Illegal(n) => told(25, "Illegal", Fields::One(*n)),
+            Refusal::Different(n) => told(26, "Different", Fields::One(*n)),
+            Refusal::NotClanForm(n) => told(27, "NotClanForm", Fields::One(*n)),
+            Refusal::NotRecoverable(n) => told(28, "NotRecoverable", Fields::One(*n)),
+            Refusal::BadCertificate(n) => told(29, "BadCertificate", Fields::One(*n)),
         }
     }
 }

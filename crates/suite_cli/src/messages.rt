@@ -3,88 +3,12 @@
 ghost use Rattle.std.specs.Prelude.{◌≡◌, ℕ, ◌≤◌, OnOk, OnErr, codes, ◌++◌};
 ghost use Rattle.std.specs.Fmt.{decimal};
 ghost use Rattle.suite_base.specs.Outside.{HasFault, Wrote, WrotePart};
-ghost use Rattle.suite_base.specs.Refusals.{name_of, number_of};
+ghost use Rattle.suite_base.specs.Refusals as refusals;
 ghost use Rattle.suite_cli.specs.Messages as spec;
 
 use crate::outcomes::Outcome;
 use itoa::Buffer;
-use suite_base::{Failed, Refusal, Sink, Where, Which, write_all, write_pieces};
-
-/// The fields of a refusal, as they are printed.
-#[derive(Clone, Copy, Debug)]
-enum Fields {
-    NoFields,
-    One(u32),
-    Two(u32, u32),
-    Counted(&'static str, u32),
-}
-
-/// The fields of `refusal`: a place is its line and its column.
-fn printed_fields(refusal: &Refusal) -> Fields
-    ensures { spec.fields_text result ≡ spec.fields_of refusal.now }
-{
-    match refusal {
-        Refusal::TooLong => Fields::NoFields,
-        Refusal::NoRegion => Fields::NoFields,
-        Refusal::OpenRegion(n) => Fields::One(*n),
-        Refusal::SecondRegion(n) => Fields::One(*n),
-        Refusal::BadToken(place) => Fields::Two(place.line, place.column),
-        Refusal::BadSyntax(place) => Fields::Two(place.line, place.column),
-        Refusal::TooDeep(place) => Fields::Two(place.line, place.column),
-        Refusal::NotAffine(place) => Fields::Two(place.line, place.column),
-        Refusal::NameClash(place) => Fields::Two(place.line, place.column),
-        Refusal::TooManyParts(n) => Fields::One(*n),
-        Refusal::BadScop(n) => Fields::One(*n),
-        Refusal::NumberTooLarge(place) => Fields::Two(place.line, place.column),
-        Refusal::SecondScop(n) => Fields::One(*n),
-        Refusal::NotSolved(n) => Fields::One(*n),
-        Refusal::BetaClash(i, j) => Fields::Two(*i, *j),
-        Refusal::Limit(which, n) => Fields::Counted(which_name(which), *n),
-        Refusal::BadScript(place) => Fields::Two(place.line, place.column),
-        Refusal::NoBeta(n) => Fields::One(*n),
-        Refusal::BadLevel(n) => Fields::One(*n),
-        Refusal::BadArgument(n) => Fields::One(*n),
-        Refusal::NotALoop(n) => Fields::One(*n),
-        Refusal::Overflow(place, n) => Fields::Counted(where_name(place), *n),
-        Refusal::TooManyRows(n) => Fields::One(*n),
-        Refusal::Illegal(n) => Fields::One(*n),
-        Refusal::Different(n) => Fields::One(*n),
-        Refusal::NotClanForm(n) => Fields::One(*n),
-        Refusal::NotRecoverable(n) => Fields::One(*n),
-        Refusal::BadCertificate(n) => Fields::One(*n),
-    }
-}
-
-/// What an overflow counts, in lower-case letters.
-fn where_name(place: &Where) -> &'static str
-    ensures { result.now ≡ spec.where_name place.now }
-{
-    match place {
-        Where::Statement => "statement",
-        Where::Command => "command",
-        Where::System => "system",
-    }
-}
-
-/// The count that passed its limit, in lower-case letters.
-fn which_name(which: &Which) -> &'static str
-    ensures { result.now ≡ spec.which_name which.now }
-{
-    match which {
-        Which::Statements => "statements",
-        Which::Iterators => "iterators",
-        Which::Parameters => "parameters",
-        Which::Levels => "levels",
-        Which::Locals => "locals",
-        Which::Rows => "rows",
-        Which::Parts => "parts",
-        Which::Accesses => "accesses",
-        Which::Subscripts => "subscripts",
-        Which::Arrays => "arrays",
-        Which::Commands => "commands",
-        Which::Systems => "systems",
-    }
-}
+use suite_base::{Entry, Failed, Fields, Refusal, Sink, write_all, write_pieces};
 
 /// Writes the message of `outcome`; at `Done` there is none. A failed write changes nothing else.
 pub fn report<E: Sink>(outcome: &Outcome, err: &mut E) -> Result<(), Failed>
@@ -110,14 +34,25 @@ fn report_refusal<E: Sink>(file: u8, refusal: &Refusal, err: &mut E) -> Result<(
     ensures cause { OnErr result (HasFault (E.faults err.old) (E.faults err.new)) }
     ensures grows { E.faults err.old ≤ E.faults err.new }
 {
+    let entry = refusal.entry();
+    report_entry(file, &entry, err)
+}
+
+/// Writes the line of an entry of the list of refusals.
+fn report_entry<E: Sink>(file: u8, entry: &Entry, err: &mut E) -> Result<(), Failed>
+    ensures ok { OnOk result (Wrote (E.written err.old) (spec.line_of file (refusals.said_by entry.now)) (E.written err.new)) }
+    ensures part { OnErr result (WrotePart (E.written err.old) (spec.line_of file (refusals.said_by entry.now)) (E.written err.new)) }
+    ensures cause { OnErr result (HasFault (E.faults err.old) (E.faults err.new)) }
+    ensures grows { E.faults err.old ≤ E.faults err.new }
+{
     let mut file_digits = Buffer::new();
     let mut number_digits = Buffer::new();
     let head = Head {
         file: file_digits.format(file).as_bytes(),
-        number: number_digits.format(refusal.number()).as_bytes(),
-        name: refusal.name().as_bytes(),
+        number: number_digits.format(entry.number).as_bytes(),
+        name: entry.name.as_bytes(),
     };
-    match printed_fields(refusal) {
+    match entry.fields {
         Fields::NoFields => report_plain(&head, err),
         Fields::One(n) => report_one(&head, n, err),
         Fields::Two(a, b) => report_two(&head, a, b, err),
@@ -134,8 +69,8 @@ struct Head<'a> {
 }
 
 fn report_plain<E: Sink>(head: &Head<'_>, err: &mut E) -> Result<(), Failed>
-    ensures ok { OnOk result (Wrote (E.written err.old) (spec.line_with head.now (codes "\n")) (E.written err.new)) }
-    ensures part { OnErr result (WrotePart (E.written err.old) (spec.line_with head.now (codes "\n")) (E.written err.new)) }
+    ensures ok { OnOk result (Wrote (E.written err.old) (spec.line_with head.now refusals.no_field) (E.written err.new)) }
+    ensures part { OnErr result (WrotePart (E.written err.old) (spec.line_with head.now refusals.no_field) (E.written err.new)) }
     ensures cause { OnErr result (HasFault (E.faults err.old) (E.faults err.new)) }
     ensures grows { E.faults err.old ≤ E.faults err.new }
 {
@@ -152,8 +87,8 @@ fn report_plain<E: Sink>(head: &Head<'_>, err: &mut E) -> Result<(), Failed>
 }
 
 fn report_one<E: Sink>(head: &Head<'_>, n: u32, err: &mut E) -> Result<(), Failed>
-    ensures ok { OnOk result (Wrote (E.written err.old) (spec.line_with head.now (spec.one_field n)) (E.written err.new)) }
-    ensures part { OnErr result (WrotePart (E.written err.old) (spec.line_with head.now (spec.one_field n)) (E.written err.new)) }
+    ensures ok { OnOk result (Wrote (E.written err.old) (spec.line_with head.now (refusals.one_field n)) (E.written err.new)) }
+    ensures part { OnErr result (WrotePart (E.written err.old) (spec.line_with head.now (refusals.one_field n)) (E.written err.new)) }
     ensures cause { OnErr result (HasFault (E.faults err.old) (E.faults err.new)) }
     ensures grows { E.faults err.old ≤ E.faults err.new }
 {
@@ -174,8 +109,8 @@ fn report_one<E: Sink>(head: &Head<'_>, n: u32, err: &mut E) -> Result<(), Faile
 }
 
 fn report_two<E: Sink>(head: &Head<'_>, a: u32, b: u32, err: &mut E) -> Result<(), Failed>
-    ensures ok { OnOk result (Wrote (E.written err.old) (spec.line_with head.now (spec.two_fields a b)) (E.written err.new)) }
-    ensures part { OnErr result (WrotePart (E.written err.old) (spec.line_with head.now (spec.two_fields a b)) (E.written err.new)) }
+    ensures ok { OnOk result (Wrote (E.written err.old) (spec.line_with head.now (refusals.two_fields a b)) (E.written err.new)) }
+    ensures part { OnErr result (WrotePart (E.written err.old) (spec.line_with head.now (refusals.two_fields a b)) (E.written err.new)) }
     ensures cause { OnErr result (HasFault (E.faults err.old) (E.faults err.new)) }
     ensures grows { E.faults err.old ≤ E.faults err.new }
 {
@@ -200,8 +135,8 @@ fn report_two<E: Sink>(head: &Head<'_>, a: u32, b: u32, err: &mut E) -> Result<(
 }
 
 fn report_counted<E: Sink>(head: &Head<'_>, name: &str, n: u32, err: &mut E) -> Result<(), Failed>
-    ensures ok { OnOk result (Wrote (E.written err.old) (spec.line_with head.now (spec.counted_field name.now n)) (E.written err.new)) }
-    ensures part { OnErr result (WrotePart (E.written err.old) (spec.line_with head.now (spec.counted_field name.now n)) (E.written err.new)) }
+    ensures ok { OnOk result (Wrote (E.written err.old) (spec.line_with head.now (refusals.counted_field name.now n)) (E.written err.new)) }
+    ensures part { OnErr result (WrotePart (E.written err.old) (spec.line_with head.now (refusals.counted_field name.now n)) (E.written err.new)) }
     ensures cause { OnErr result (HasFault (E.faults err.old) (E.faults err.new)) }
     ensures grows { E.faults err.old ≤ E.faults err.new }
 {
