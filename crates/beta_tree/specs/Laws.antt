@@ -1,5 +1,6 @@
 -- What holds of the operations together, for any tree.
 use Rattle.std.specs.Prelude.{◌≡◌, ℕ, ◌+◌, ◌<◌, ◌≤◌, ◌^◌, pos, ◌⊎◌, Ok, List, [], ◌∷◌, length, map}
+use Rattle.suite_base.specs.Sequences.{BeforeBy}
 use Rattle.std.specs.List.{range_with_len}
 use Rattle.beta_tree.specs.Vectors.{children_of, In, IsTree, LongerUnder, dense_of}
 use Rattle.beta_tree.specs.Edits.{fissioned, fused, place_of, with_level, make_room, below, front, last}
@@ -7,9 +8,7 @@ use Rattle.beta_tree.specs.Answers.{fission_answer, fuse_answer, reorder_answer,
 
 -- u is before v in lexicographic order: they differ at a place that both have, and u has the lesser number at the first such place
 abbrev pub Before : List ℕ → List ℕ → Type 0
-Before [] v = ⊥
-Before (x ∷ u) [] = ⊥
-Before (x ∷ u) (y ∷ v) = (x < y) ⊎ ((x ≡ y) × Before u v)
+Before u v = BeforeBy (λ x y. x < y) u v
 
 -- a fuse of a loop with the loop that a fission made of its children gives the vectors back
 abbrev pub FuseUndoesFission : Type 0

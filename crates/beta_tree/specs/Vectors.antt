@@ -1,5 +1,6 @@
 -- A list of beta vectors is a tree of loops: each vector is a leaf, and each of its proper beginnings that is not empty is a
 -- loop round it. The statements keep their order in the list, whatever their places in the tree.
+pub use Rattle.suite_base.specs.Sequences.{In}
 pub use Rattle.row_core.specs.Dense.{heads, rests, lesser, dense_among, dense_of}
 use Rattle.std.specs.Prelude.{◌≡◌, ◌≢◌, ℕ, ◌<◌, ◌^◌, ◌==◌, Bool, true, false, if◌then◌else◌, not, ◌&&◌, ◌⊎◌, Option, Some, None, List, [], ◌∷◌, ◌++◌, length}
 use Rattle.std.specs.List.{filter_map, list_any}
@@ -36,11 +37,6 @@ is_leaf P V = list_any is_nil (under P V)
 -- P is a loop: it isn't empty, statements are under it, and no vector equals it
 abbrev pub is_loop : List ℕ → List (List ℕ) → Bool
 is_loop P V = not (is_nil P) && not (no_statement P V) && not (is_leaf P V)
-
--- membership in a list
-abbrev pub In : {A : Type 0} → A → List A → Type 0
-In a [] = ⊥
-In a (x ∷ xs) = (x ≡ a) ⊎ In a xs
 
 -- u and v differ at a place that both have: they aren't equal, and no one is a prefix of the other
 abbrev pub Apart : {A : Type 0} → List A → List A → Type 0

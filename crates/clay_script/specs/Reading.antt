@@ -1,5 +1,6 @@
 -- Reading a script from left to right, with the first fault that is met.
 use Rattle.std.specs.Prelude.{◌≡◌, ℕ, zero, suc, Bool, true, false, List, [], ◌∷◌, ◌++◌, Option, Some, None, Result, Ok, Err, ℤ, if◌then◌else◌}
+use Rattle.suite_base.specs.Results as results
 use Rattle.suite_base.specs.declared.places.Place.{Place}
 use Rattle.suite_base.specs.declared.refusals.Refusal.{Refusal}
 use Rattle.suite_base.specs.declared.refusals.Refusal.TheVariants.{BadScript, NumberTooLarge, Limit}
@@ -15,8 +16,7 @@ use Rattle.clay_script.specs.Commands.{Kind, ANumber, AVector, Argument, OneNumb
 
 infixl 10 ◌>>=◌
 abbrev pub ◌>>=◌ : {A B : Type 0} → Result A Refusal → (A → Result B Refusal) → Result B Refusal
-(Ok x) >>= f = f x
-(Err e) >>= f = Err e
+r >>= f = results.and_then r f
 
 -- the refusal for a token that stands at a place where it may not
 abbrev pub fault_of : Token → Place → Refusal

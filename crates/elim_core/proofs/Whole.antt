@@ -64,16 +64,16 @@ crossing_zero j k p q l e f =
 
 crossing_gone : (n j : ℕ) (js : List ℕ) (p q : PartRow) → length p.entries ≡ length q.entries → Gone n (j ∷ js) p → Gone n (j ∷ js) q → int_lt (entry q.entries j) (pos 0) ≡ true → Gone n js (crossing j p q)
 crossing_gone n j js p q l gp gq e = λ k i. elim (gp k i) [
-  | inl a ↦ elim a [ inl s ↦ inr (rw s (crossing_clears j p q l e)) | inr b ↦ inl b ]
+  | inl a ↦ elim a [ inl s ↦ inr (rw (sym s) (crossing_clears j p q l e)) | inr b ↦ inl b ]
   | inr zp ↦ elim (gq k i) [
-    | inl a ↦ elim a [ inl s ↦ inr (rw s (crossing_clears j p q l e)) | inr b ↦ inl b ]
+    | inl a ↦ elim a [ inl s ↦ inr (rw (sym s) (crossing_clears j p q l e)) | inr b ↦ inl b ]
     | inr zq ↦ inr (crossing_zero j k p q l zp zq)
   ]
 ]
 
 flat_gone : (n j : ℕ) (js : List ℕ) (w : PartRow) → Gone n (j ∷ js) w → is_zero (entry w.entries j) ≡ true → Gone n js w
 flat_gone n j js w g z = λ k i. elim (g k i) [
-  | inl a ↦ elim a [ inl s ↦ inr (rw s (zero_is (entry w.entries j) z)) | inr b ↦ inl b ]
+  | inl a ↦ elim a [ inl s ↦ inr (rw (sym s) (zero_is (entry w.entries j) z)) | inr b ↦ inl b ]
   | inr e ↦ inr e
 ]
 

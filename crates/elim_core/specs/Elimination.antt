@@ -1,6 +1,7 @@
 -- The stated elimination: substitution of the equalities, then Fourier-Motzkin elimination of each
 -- column, over unbounded integers. A working row has the entries of a row of n variables, its
 -- constant at place n, and behind it one multiplier for each row of the system.
+pub use Rattle.suite_base.specs.Sequences.{In}
 use Rattle.std.specs.Prelude.{◌≡◌, ℕ, zero, suc, ◌+◌, ◌-◌, ◌<◌, ◌⊎◌, List, [], ◌∷◌, ◌++◌, Bool, true, false, not, cond, Option, Some, None, length, take, drop, map, max, replicate, nat_eq, int_lt, int_le, ℤ, pos, negsuc, ◌-ℤ◌, neg_ℤ, unsigned_abs}
 use Rattle.row_core.specs.Rows.{entry, combined, combined_weight}
 use Rattle.relation_core.specs.declared.part_rows.PartRow.{PartRow}
@@ -194,11 +195,6 @@ from_rows n columns most ws = elim (refutation_of n ws) [ Some certificate ↦ e
 -- the stated elimination of a system of n variables, whose columns are projected in the given order
 abbrev pub elimination : ℕ → List ℕ → List PartRow → Elimination
 elimination n columns rows = from_rows n columns (length rows) (started rows)
-
--- a column stands in a list of columns
-abbrev pub In : ℕ → List ℕ → Type 0
-In k [] = ⊥
-In k (j ∷ js) = (k ≡ j) ⊎ In k js
 
 -- each of the n variables is projected
 abbrev pub Covers : ℕ → List ℕ → Type 0

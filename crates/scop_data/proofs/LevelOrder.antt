@@ -161,7 +161,7 @@ levels_are_listed p q l = ((λ i. into l (in_either l (range_with_len 1 (common_
     into (suc n) (inr i) = absurd (omega (arith, (of_text (is_textually_before p q) (suc n) i).0))
 
     back : (l : ℕ) → IsLevel p q l → In l (levels_between p q)
-    back zero h = in_behind 0 (range_with_len 1 (common_loops p q)) _ (subst (λ t. In {X = ℕ} 0 (if t then 0 ∷ [] else [])) (sym h) (inl refl))
+    back zero h = in_behind 0 (range_with_len 1 (common_loops p q)) _ (subst (λ t. In {A = ℕ} 0 (if t then 0 ∷ [] else [])) (sym h) (inl refl))
     back (suc n) h = in_front (suc n) (range_with_len 1 (common_loops p q)) _ (range_has 1 (common_loops p q) (suc n) (omega arith) (omega (arith, h)))
 
 equal_entries : (n : ℕ) (v w : List ℤ) → EqualUpTo n v w → (k : ℕ) → k < n → entry v k ≡ entry w k

@@ -1,11 +1,7 @@
 -- Lists as sequences of events: members, their order, runs and folds.
+pub use Rattle.suite_base.specs.Sequences.{In}
 use Rattle.std.specs.Prelude.{◌≡◌, ◌⊎◌, List, [], ◌∷◌, ℤ}
 use Rattle.scop_data.specs.Order.{Before}
-
--- a is a member of the list
-abbrev pub In : {X : Type 0} → X → List X → Type 0
-In a [] = ⊥
-In a (x ∷ xs) = (x ≡ a) ⊎ In a xs
 
 -- a stands in the list at some place before one of b
 abbrev pub Precedes : {X : Type 0} → List X → X → X → Type 0
