@@ -1,5 +1,6 @@
 -- When the SCoP of a region is what its own pieces give.
 use Rattle.std.specs.Prelude.{◌≡◌, ◌≤◌, ℕ, List, length, true, None}
+use Rattle.suite_base.specs.Limits.{max_loops}
 use Rattle.scop_core.specs.Sequences.{In}
 use Rattle.scop_core.specs.Printable.{are_names, is_body}
 use Rattle.scop_core.specs.ReadBack.{ReadBack}
@@ -8,10 +9,10 @@ use Rattle.clan_extract.specs.Placements.{Placed, placed_all, loop_names}
 use Rattle.clan_extract.specs.Scops.{scop_of}
 use Rattle.clan_extract.specs.Refusals.{refusal_of}
 
--- an assignment inside at most 12 loops, whose text and names a body can hold
+-- an assignment inside no more loops than the limit, whose text and names a body can hold
 pub record IsPrintablePlaced (p : Placed) : Type 0 where
   pub body : is_body (record { text = p.assignment.text; iterators = loop_names p.rounds }) ≡ true
-  pub depth : length (loop_names p.rounds) ≤ 12
+  pub depth : length (loop_names p.rounds) ≤ max_loops
 
 -- the names and texts of a region can be printed; where there is an assignment, there is an array
 pub record IsPrintableRegion (parameters arrays : List (List ℕ)) (region : Nodes) : Type 0 where

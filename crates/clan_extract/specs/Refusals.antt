@@ -1,5 +1,6 @@
 -- The first refusal of a region whose names have one role each and whose places of control can be translated.
 use Rattle.std.specs.Prelude.{ℕ, ◌+◌, ◌^◌, List, [], ◌∷◌, ◌++◌, length, ℤ, unsigned_abs, Bool, true, false, not, ◌&&◌, ◌||◌, nat_lt, if◌then◌else◌, Option, None, Some}
+use Rattle.suite_base.specs.Limits.{max_subscripts, max_accesses, max_parts, max_rows, max_locals, max_parameters, max_arrays, max_statements}
 use Rattle.suite_base.specs.declared.refusals.Refusal.{Refusal}
 use Rattle.suite_base.specs.declared.refusals.Refusal.TheVariants.{Limit, TooManyParts, Overflow}
 use Rattle.suite_base.specs.declared.refusals.Which.TheVariants.{Statements, Parameters, Locals, Rows, Accesses, Subscripts, Arrays}
@@ -79,20 +80,20 @@ fits parameters arrays p =
     && (references_fit parameters (loop_names p.rounds) (p.assignment.target ∷ p.assignment.right)
     && domain_fits (statement parameters arrays p).domain)
 
--- some access has more than 12 subscripts
+-- some access has more subscripts than the limit
 abbrev pub subscripts_above : List Access → Bool
 subscripts_above [] = false
-subscripts_above (access ∷ accesses) = nat_lt 12 (length access.subscripts) || subscripts_above accesses
+subscripts_above (access ∷ accesses) = nat_lt max_subscripts (length access.subscripts) || subscripts_above accesses
 
 -- the first refusal of statement number k
 abbrev pub statement_refusal : List (List ℕ) → List (List ℕ) → ℕ → Placed → Option Refusal
 statement_refusal parameters arrays k p =
     let s = statement parameters arrays p
-    in (if nat_lt 256 (length s.accesses) then Some (Limit Accesses k)
+    in (if nat_lt max_accesses (length s.accesses) then Some (Limit Accesses k)
     else (if subscripts_above s.accesses then Some (Limit Subscripts k)
-    else (if nat_lt 64 (length s.domain) then Some (TooManyParts k)
-    else (if some_above RowCount 256 s.domain then Some (Limit Rows k)
-    else (if some_above LocalCount 24 s.domain then Some (Limit Locals k)
+    else (if nat_lt max_parts (length s.domain) then Some (TooManyParts k)
+    else (if some_above RowCount max_rows s.domain then Some (Limit Rows k)
+    else (if some_above LocalCount max_locals s.domain then Some (Limit Locals k)
     else (if not (fits parameters arrays p) then Some (Overflow OfStatement k) else None))))))
 
 -- the first refusal of the first statement that has one; the first statement has number k
@@ -103,9 +104,9 @@ statements_refusal parameters arrays k (p ∷ ps) = or_else (statement_refusal p
 -- the first refusal of the whole: parameters, arrays, statements
 abbrev pub whole_refusal : List (List ℕ) → List (List ℕ) → List Placed → Option Refusal
 whole_refusal parameters arrays ps =
-    if nat_lt 16 (length parameters) then Some (Limit Parameters 0)
-    else (if nat_lt 4096 (length arrays) then Some (Limit Arrays 0)
-    else (if nat_lt 1024 (length ps) then Some (Limit Statements 0) else None))
+    if nat_lt max_parameters (length parameters) then Some (Limit Parameters 0)
+    else (if nat_lt max_arrays (length arrays) then Some (Limit Arrays 0)
+    else (if nat_lt max_statements (length ps) then Some (Limit Statements 0) else None))
 
 -- the first refusal of a region
 abbrev pub refusal_of : List (List ℕ) → List (List ℕ) → Nodes → Option Refusal

@@ -1,6 +1,7 @@
 //! The walk over a region: its place, the pieces made so far and the first refusal.
 
 ghost use Rattle.std.specs.Prelude.{◌≡◌, ◌≤◌, ◌+◌, [], ◌∷◌, ◌++◌, length, map, true, false, All, ◌&&◌, None, IfOk, OnOk, IfErr, is_none};
+ghost use Rattle.suite_base.specs.Limits.{max_dimensions};
 ghost use Rattle.scop_core.specs.Assembly.{HasCause};
 ghost use Rattle.scop_core.specs.Assembly as assembly;
 ghost use Rattle.clan_walk.specs.Laws.{CanFinish};
@@ -374,7 +375,7 @@ impl Extraction {
 
     // The pieces of the region's SCoP behind it.
     fn into_pieces(self, alloc: Global) -> Result<ScopPieces, NoMemory>
-        requires { length self.parameters ≤ 65536 }
+        requires { length self.parameters ≤ max_dimensions }
         ensures { IfOk result (λ pieces. pieces ≡ pieces_at_end self) }
     {
         let shape = Shape {

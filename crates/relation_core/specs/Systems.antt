@@ -1,6 +1,7 @@
 -- Systems of rows as data: a shape and a list of rows of that width.
 use Rattle.std.specs.Prelude.{ℤ, ℕ, ◌+◌, ◌<◌, ◌≤◌, ◌≡◌, List, [], ◌∷◌, ◌++◌, length, map, take, pos, insert}
 use Rattle.std.proofs.Common.{get_or}
+use Rattle.suite_base.specs.Limits.{max_dimensions}
 use Rattle.row_core.specs.Rows.{AreCoefficients}
 use Rattle.relation_core.specs.declared.shapes.Shape.{Shape}
 use Rattle.relation_core.specs.declared.part_rows.PartRow.{PartRow}
@@ -20,12 +21,12 @@ columns shape = shape.outputs + shape.inputs + shape.locals + shape.parameters
 abbrev pub width : Shape → ℕ
 width shape = columns shape + 1
 
--- no number of a shape passes 65,536
+-- no number of a shape passes the limit
 pub record HasLimits (shape : Shape) : Type 0 where
-  pub outputs : shape.outputs ≤ 65536
-  pub inputs : shape.inputs ≤ 65536
-  pub locals : shape.locals ≤ 65536
-  pub parameters : shape.parameters ≤ 65536
+  pub outputs : shape.outputs ≤ max_dimensions
+  pub inputs : shape.inputs ≤ max_dimensions
+  pub locals : shape.locals ≤ max_dimensions
+  pub parameters : shape.parameters ≤ max_dimensions
 
 -- a row that is not there
 abbrev pub no_row : PartRow

@@ -2,7 +2,7 @@
 
 ghost use Rattle.std.specs.Prelude.{◌≡◌, ◌<◌, ◌≤◌, ◌+◌, [], ◌∷◌, ◌++◌, length, drop, slice_get, true, None, Some, All, IfOk, IfSome, OnOk, ℕ};
 ghost use Rattle.std.specs.Fmt.{decimal};
-ghost use Rattle.suite_base.specs.Limits.{max_statements};
+ghost use Rattle.suite_base.specs.Limits.{max_statements, max_dimensions};
 ghost use Rattle.scop_data.specs.SolvedRows.{HasRelation, HasAccessRelation};
 ghost use Rattle.schedule_forms.specs.SolvedForm.{is_scattering, is_access, schedule_of, access_of};
 ghost use Rattle.scop_core.specs.Assembly.{is_one, the_part, are_solved, is_solved, first_unsolved, iterators_of, default_names, body_from, solved_accesses, solved_statement, solved_statements, HasInputs, HasNames, HasShapes};
@@ -59,7 +59,7 @@ fn is_solved_statement(alloc: Global, raw: &RawStatement) -> Result<bool, NoMemo
 // The number of iterators of a statement: the outputs of its domain.
 fn iterator_count(raw: &RawStatement) -> usize
     ensures answer { result ≡ iterators_of raw.now }
-    ensures limit { result ≤ 65536 }
+    ensures limit { result ≤ max_dimensions }
 {
     match raw.domain.parts() {
         [] => 0,
@@ -79,7 +79,7 @@ fn numbered(alloc: Global, letter: u8, number: usize) -> Result<Text, NoMemory>
 
 // Appends the name of iterator `k`, from 0.
 fn push_name(alloc: Global, k: usize, made: &mut List<Text>) -> Result<(), NoMemory>
-    requires { k < 65536 }
+    requires { k < max_dimensions }
     ensures { OnOk result (made.new ≡ made.old ++ (105 ∷ decimal (k + 1)) ∷ []) }
 {
     let name = numbered(alloc, b'i', k + 1)?;
@@ -89,7 +89,7 @@ fn push_name(alloc: Global, k: usize, made: &mut List<Text>) -> Result<(), NoMem
 
 // The names i1, i2 and so on of `n` iterators.
 fn names_of(alloc: Global, n: usize) -> Result<List<Text>, NoMemory>
-    requires { n ≤ 65536 }
+    requires { n ≤ max_dimensions }
     ensures names { IfOk result (λ names. names ≡ default_names 1 n) }
     ensures count { IfOk result (λ names. length names ≡ n) }
 {
@@ -102,7 +102,7 @@ fn names_of(alloc: Global, n: usize) -> Result<List<Text>, NoMemory>
 
 // The body of statement number `number`, where it has none.
 fn default_body(alloc: Global, number: usize, iterators: usize) -> Result<Body, NoMemory>
-    requires { iterators ≤ 65536 }
+    requires { iterators ≤ max_dimensions }
     ensures body { IfOk result (λ body. body ≡ body_from number iterators None) }
     ensures count { IfOk result (λ body. length body.iterators ≡ iterators) }
 {
@@ -118,7 +118,7 @@ fn body_of(
     iterators: usize,
     body: Option<Body>,
 ) -> Result<Body, NoMemory>
-    requires limit { iterators ≤ 65536 }
+    requires limit { iterators ≤ max_dimensions }
     requires names { IfSome body (λ own. length own.iterators ≡ iterators) }
     ensures body { IfOk result (λ made. made ≡ body_from number iterators body) }
     ensures count { IfOk result (λ made. length made.iterators ≡ iterators) }

@@ -1,6 +1,6 @@
 -- Words of the contracts on headers.
 use Rattle.std.specs.Prelude.{◌≡◌, ℕ, pos, ◌+◌, ◌≤◌, ◌==◌, true, List, Result, Ok, Err}
-use Rattle.suite_base.specs.Limits.{max_rows}
+use Rattle.suite_base.specs.Limits.{max_rows, max_dimensions}
 use Rattle.suite_base.specs.declared.refusals.Fail.{Fail}
 use Rattle.suite_base.specs.declared.refusals.Fail.TheVariants as fail
 use Rattle.relation_core.specs.Systems.{HasLimits, columns}
@@ -26,5 +26,5 @@ pub record IsSmall (header : Header) : Type 0 where
 abbrev pub IsSmallRole : Role → Type 0
 IsSmallRole Context = Unit {0}
 IsSmallRole (Domain parameters iterators) = Unit {0}
-IsSmallRole (Scattering parameters iterators) = iterators ≤ 65536
-IsSmallRole (Access parameters iterators) = iterators ≤ 65536
+IsSmallRole (Scattering parameters iterators) = iterators ≤ max_dimensions
+IsSmallRole (Access parameters iterators) = iterators ≤ max_dimensions

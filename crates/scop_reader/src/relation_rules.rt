@@ -1,6 +1,7 @@
 //! Relations: a type word, the number of parts where it is written, the parts.
 
 ghost use Rattle.std.specs.Prelude.{◌≡◌, ◌≤◌, [], ◌∷◌, ◌++◌, OnOk, IfErr};
+ghost use Rattle.suite_base.specs.Limits.{max_dimensions};
 ghost use Rattle.scop_reader.specs.Reading.{Reads};
 ghost use Rattle.scop_reader.specs.Rules as spec;
 ghost use Rattle.scop_reader.specs.Headers.{IsSmallRole};
@@ -171,7 +172,7 @@ pub fn scattering(
     k: u32,
     entries: &mut Vec<Coeff>,
 ) -> Result<Relation, Fail>
-    requires { iterators ≤ 65536 }
+    requires { iterators ≤ max_dimensions }
     ensures { Reads (spec.scattering parameters iterators k cursor.old) result cursor.new }
 {
     literal(cursor, b"SCATTERING")?;
@@ -220,7 +221,7 @@ fn access(
     k: u32,
     entries: &mut Vec<Coeff>,
 ) -> Result<(AccessKind, Relation), Fail>
-    requires { iterators ≤ 65536 }
+    requires { iterators ≤ max_dimensions }
     ensures { Reads (spec.access parameters iterators k cursor.old) result cursor.new }
 {
     let kind = kind_line(cursor)?;
@@ -242,7 +243,7 @@ pub fn accesses(
     count: usize,
     entries: &mut Vec<Coeff>,
 ) -> Result<List<(AccessKind, Relation)>, Fail>
-    requires { iterators ≤ 65536 }
+    requires { iterators ≤ max_dimensions }
     ensures { Reads (spec.accesses_from parameters iterators k count [] cursor.old) result cursor.new }
 {
     let mut made = List::new(alloc);
@@ -256,7 +257,7 @@ pub fn accesses(
 /// The number of outputs of the first part: for a domain, its iterators.
 pub fn outputs_of_first(relation: &Relation) -> usize
     ensures value { result ≡ spec.outputs_of_first relation.now }
-    ensures limit { result ≤ 65536 }
+    ensures limit { result ≤ max_dimensions }
 {
     match relation.parts() {
         [first, ..] => first.shape().outputs,

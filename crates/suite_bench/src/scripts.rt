@@ -7,12 +7,7 @@ use scop_reader::read_scop;
 use std::alloc::Global;
 use std::test::Fail;
 use std::time::{Clock, Instant};
-use suite_base::{NoMemory, Text};
-
-const COMMANDS: usize = 4_096;
-
-/// The most bytes of a text that is read.
-const LONGEST: usize = 16_777_216;
+use suite_base::{MAX_COMMANDS, MAX_INPUT, NoMemory, Text};
 
 /// Two commands that each change all statements, and leave their numbers small.
 const PAIR: &[u8] = b"shift([], 1, [], 1);\nshift([], 1, [], -1);\n";
@@ -24,7 +19,7 @@ const STATEMENT_END: &[u8] = b"\n0 0 -1 0 1 0\n0 0 0 -1 0 0\n0\n";
 // A script of 4,096 commands.
 fn long_script(alloc: Global) -> Result<Text, NoMemory> {
     let mut text = Text::new(alloc);
-    for _ in 0..COMMANDS / 2 {
+    for _ in 0..MAX_COMMANDS / 2 {
         text.push_bytes(PAIR)?;
     }
     Ok(text)
@@ -51,7 +46,7 @@ fn loops(alloc: Global, count: u32) -> Result<Text, NoMemory> {
 pub fn script_time(clock: &impl Clock, alloc: Global, count: u32) -> Result<Option<u128>, Fail> {
     let script = long_script(alloc)?;
     let scop = loops(alloc, count)?;
-    if script.bytes().len() > LONGEST || scop.bytes().len() > LONGEST {
+    if script.bytes().len() > MAX_INPUT || scop.bytes().len() > MAX_INPUT {
         return Ok(None);
     }
     let Ok(script) = read_script(alloc, script.bytes()) else {

@@ -2,13 +2,14 @@
 //! a comment. A line of numbers is read as a line of multipliers is.
 
 ghost use Rattle.std.specs.Prelude.{◌≡◌, ◌≤◌, length};
+ghost use Rattle.suite_base.specs.Limits.{max_dimensions};
 ghost use Rattle.relation_core.specs.Systems.{width};
 
 use farkas_cert::{Certificate, read_cert};
 use relation_core::{Part, RowKind, Shape};
 use row_core::Coeff;
 use std::alloc::Global;
-use suite_base::{Lines, NoMemory, content_line};
+use suite_base::{Lines, MAX_DIMENSIONS, NoMemory, content_line};
 
 /// The systems of a text, up to the first line that is out of place.
 pub fn read_systems(alloc: Global, text: &[u8]) -> Result<Vec<Part>, NoMemory> {
@@ -80,13 +81,13 @@ fn next_numbers(alloc: Global, lines: &mut Lines<'_>) -> Result<Certificate, NoM
 
 // A number of rows or columns, from 0 to 65,536.
 fn small(number: Coeff) -> usize
-    ensures { result ≤ 65536 }
+    ensures { result ≤ max_dimensions }
 {
     let value = number.value();
     if value < 0 {
         0
-    } else if value > 65_536 {
-        65_536
+    } else if value > MAX_DIMENSIONS as i128 {
+        MAX_DIMENSIONS
     } else {
         value as usize
     }
