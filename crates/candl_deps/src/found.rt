@@ -18,7 +18,6 @@ use crate::held::{Decided, Dependences};
 use dependence_blocks::{block, entry_is_readable, print_count, print_entry};
 use dependence_systems::{Dep, own_pieces};
 use elim_core::Search;
-use relation_core::Part;
 use scop_core::{Extension, Pieces, Scop};
 use std::alloc::Global;
 use suite_base::{Fail, List, NoMemory, Text};
@@ -70,15 +69,6 @@ fn decided_entries(
     Ok(made)
 }
 
-// A copy of a part.
-fn copied(alloc: Global, part: &Part) -> Result<Part, NoMemory>
-    ensures { IfOk result (λ made. made ≡ part.now) }
-{
-    let mut made = Part::new(alloc, part.shape());
-    made.conjoin(part)?;
-    Ok(made)
-}
-
 // Appends the decided system of an entry; `number` is that of its system, and `held` the base of an entry before
 // it. It answers the entry's own base.
 fn push_decided(
@@ -102,7 +92,7 @@ fn push_decided(
         Err(fail) => Err(refused(fail, number)),
         Ok(level) => {
             let Level { base, certificate } = level;
-            let system = copied(alloc, &base.part)?;
+            let system = base.part.copy(alloc)?;
             entry_is_readable(entry, &system, &certificate);
             made.push(Decided {
                 system,

@@ -6,9 +6,8 @@ ghost use Rattle.clan_extract.specs.Forms.{constant_form, first_of_name, innermo
 ghost use Rattle.clan_rows.specs.Contents.{affine_of};
 
 use crate::forms::Form;
-use crate::rows::zero_row;
 use row_core::{Coeff, DenseRow};
-use scop_data::row_builders::push_zeros;
+use scop_data::row_builders::zero_row;
 use std::alloc::Global;
 use suite_base::{NoMemory, Text};
 
@@ -69,7 +68,7 @@ fn first_row(alloc: Global, parameters: &[Text], name: &[u8]) -> Result<DenseRow
     while let [first, others @ ..] = rest {
         if is_same(first.bytes(), name) {
             row.push(Coeff::ONE)?;
-            push_zeros(&mut row, others.len())?;
+            row.push_zeros(others.len())?;
             return Ok(row);
         }
         row.push(Coeff::ZERO)?;

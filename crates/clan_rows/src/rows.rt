@@ -2,23 +2,12 @@
 
 ghost use Rattle.std.specs.Prelude.{◌≡◌, ◌++◌, ◌∷◌, negsuc, length, IfOk, []};
 ghost use Rattle.row_core.specs.Rows.{add_rows, scale};
-ghost use Rattle.scop_data.specs.SolvedRows.{zeros};
 ghost use Rattle.clan_rows.specs.Fitting.{RowFits, summed, fitting_row};
 
 use crate::coefficients::{product_of, sum_of};
 use row_core::{Coeff, DenseRow, negated};
-use scop_data::row_builders::push_zeros;
 use std::alloc::Global;
 use suite_base::NoMemory;
-
-/// The row of `n` zeros.
-pub fn zero_row(alloc: Global, n: usize) -> Result<DenseRow, NoMemory>
-    ensures { IfOk result (λ row. row ≡ zeros n) }
-{
-    let mut row = DenseRow::new(alloc);
-    push_zeros(&mut row, n)?;
-    Ok(row)
-}
 
 // The sum of two rows, as far as both reach.
 fn summed_row(alloc: Global, a: &DenseRow, b: &DenseRow) -> Result<Option<DenseRow>, NoMemory>

@@ -1,7 +1,7 @@
 //! The domain of a statement: a part for each part of what stands round it.
 
 ghost use Rattle.std.specs.Prelude.{◌≡◌, ◌≤◌, ◌+◌, [], ◌∷◌, ◌++◌, length, map, cond, true, IfOk, OnOk};
-ghost use Rattle.suite_base.specs.Limits.{max_locals};
+ghost use Rattle.suite_base.specs.Limits.{max_locals, max_dimensions};
 ghost use Rattle.clan_extract.specs.Scops.{padded, locals_in, local_columns, part_row, part_rows, part};
 ghost use Rattle.clan_rows.specs.Contents.{row_of, constraint_of};
 ghost use Rattle.clan_walk.specs.Walk.{are_narrow};
@@ -9,7 +9,6 @@ ghost use Rattle.clan_walk.specs.Walk.{are_narrow};
 use clan_rows::{Constraint, FormRow};
 use relation_core::{Part, Relation, Shape};
 use row_core::{Coeff, DenseRow};
-use scop_data::row_builders::{push_all, push_zeros};
 use std::alloc::Global;
 use suite_base::{List, MAX_LOCALS, NoMemory};
 
@@ -18,10 +17,10 @@ fn push_padded(row: &mut DenseRow, n: usize, coeffs: &[Coeff]) -> Result<(), NoM
     ensures { OnOk result (row.new ≡ row.old ++ padded n coeffs.now) }
 {
     if coeffs.len() < n {
-        push_all(row, coeffs)?;
-        push_zeros(row, n - coeffs.len())
+        row.push_all(coeffs)?;
+        row.push_zeros(n - coeffs.len())
     } else {
-        push_all(row, &coeffs[..n])
+        row.push_all(&coeffs[..n])
     }
 }
 
@@ -35,15 +34,15 @@ struct LocalPlace {
 
 // Appends the coefficients of all locals, with this one at the place.
 fn push_locals(row: &mut DenseRow, place: LocalPlace, local: Coeff) -> Result<(), NoMemory>
-    requires few { place.before + place.behind ≤ 65536 }
+    requires few { place.before + place.behind ≤ max_dimensions }
     ensures { OnOk result (row.new ≡ row.old ++ local_columns place.before place.behind place.has_local local) }
 {
     if place.has_local {
-        push_zeros(row, place.before)?;
+        row.push_zeros(place.before)?;
         row.push(local)?;
-        push_zeros(row, place.behind)
+        row.push_zeros(place.behind)
     } else {
-        push_zeros(row, place.before + place.behind)
+        row.push_zeros(place.before + place.behind)
     }
 }
 
@@ -144,8 +143,8 @@ fn domain_part(
     parameters: usize,
     constraints: &[Constraint],
 ) -> Result<Part, NoMemory>
-    requires iterators { iterators ≤ 65536 }
-    requires parameters { parameters ≤ 65536 }
+    requires iterators { iterators ≤ max_dimensions }
+    requires parameters { parameters ≤ max_dimensions }
     requires narrow { locals_in (map constraint_of constraints.now) ≤ max_locals }
     ensures { IfOk result (λ made. made ≡ part iterators parameters (map constraint_of constraints.now)) }
 {
@@ -190,8 +189,8 @@ pub fn domain_of(
     parameters: usize,
     parts: &[List<Constraint>],
 ) -> Result<Relation, NoMemory>
-    requires iterators { iterators ≤ 65536 }
-    requires parameters { parameters ≤ 65536 }
+    requires iterators { iterators ≤ max_dimensions }
+    requires parameters { parameters ≤ max_dimensions }
     requires narrow { are_narrow (map (λ part. map constraint_of part) parts.now) ≡ true }
     ensures { IfOk result (λ made. made ≡ map (part iterators parameters) (map (λ part. map constraint_of part) parts.now)) }
 {

@@ -9,7 +9,7 @@ ghost use Rattle.clan_walk.specs.Walk.{sign, signs};
 use crate::turns::{Direction, Turn};
 use relation_core::Relation;
 use row_core::{Coeff, DenseRow};
-use scop_data::row_builders::{push_unit, push_zeros};
+use scop_data::row_builders::push_unit;
 use scop_data::{Affine, Schedule};
 use std::alloc::Global;
 use suite_base::{List, NoMemory};
@@ -38,7 +38,7 @@ fn level(
     let mut iterators = DenseRow::new(alloc);
     push_unit(&mut iterators, n, k, sign_of(direction))?;
     let mut others = DenseRow::new(alloc);
-    push_zeros(&mut others, parameters)?;
+    others.push_zeros(parameters)?;
     let floors: [Coeff; 0] = [];
     let value = Affine::new(
         alloc,

@@ -3,7 +3,6 @@
 ghost use Rattle.std.specs.Prelude.{◌≡◌, ◌+◌, ◌<◌, ◌≤◌, ◌^◌, ◌+ℤ◌, neg_ℤ, negsuc, pos, [], ◌∷◌, ◌++◌, length, map, unsigned_abs, All, IfOk, OnOk};
 ghost use Rattle.relation_core.specs.Systems.{with_row};
 ghost use Rattle.relation_core.specs.declared.part_rows.RowKind.TheVariants.{AtLeast};
-ghost use Rattle.scop_core.specs.SolvedRows.{zeros};
 ghost use Rattle.clay_commands.specs.Drafts.{condition_row as row_in, parts_where, restricted};
 ghost use Rattle.scop_core.specs.Printable.{IsDomainPart};
 
@@ -12,26 +11,6 @@ use row_core::{Coeff, DenseRow, negated};
 use scop_core::Statement;
 use std::alloc::Global;
 use suite_base::NoMemory;
-
-// Appends all of `coeffs`.
-fn push_all(row: &mut DenseRow, coeffs: &[Coeff]) -> Result<(), NoMemory>
-    ensures { OnOk result (row.new ≡ row.old ++ coeffs.now) }
-{
-    for coeff in coeffs {
-        row.push(*coeff)?;
-    }
-    Ok(())
-}
-
-// Appends `n` zeros.
-fn push_zeros(row: &mut DenseRow, n: usize) -> Result<(), NoMemory>
-    ensures { OnOk result (row.new ≡ row.old ++ zeros n) }
-{
-    for _k in 0..n {
-        row.push(Coeff::ZERO)?;
-    }
-    Ok(())
-}
 
 // The row of an affine value of iterators and parameters, in a part.
 #[tactic(auto, using(std::proofs::Common::append_assoc))]
@@ -45,9 +24,9 @@ fn condition_row(
     ensures { IfOk result (λ row. row ≡ row_in part.now iterators.now parameters.now constant) }
 {
     let mut row = DenseRow::new(alloc);
-    push_all(&mut row, iterators)?;
-    push_zeros(&mut row, part.shape().locals)?;
-    push_all(&mut row, parameters)?;
+    row.push_all(iterators)?;
+    row.push_zeros(part.shape().locals)?;
+    row.push_all(parameters)?;
     row.push(constant)?;
     Ok(row)
 }

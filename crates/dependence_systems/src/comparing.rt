@@ -6,7 +6,7 @@ ghost use Rattle.scop_core.specs.SolvedRows.{zeros};
 ghost use Rattle.dependence_systems.specs.Comparisons.{factor_of, is_turned, kind_of, constant_for, constant_weight, floor_columns, entries_for, row_for, weight_for, weights_for, Compares, AllCompare};
 ghost use Rattle.dependence_systems.specs.Systems.{rows_between, shape_with};
 
-use crate::pieces::{push_constant_difference, push_differences, push_signed, push_zeros};
+use crate::pieces::{push_constant_difference, push_differences, push_signed};
 use crate::widths::{Comparison, Widths};
 use relation_core::{Part, RowKind};
 use row_core::{Coeff, DenseRow, RowFail};
@@ -51,7 +51,7 @@ fn push_floors(
     ensures { OnOk result (row.new ≡ row.old ++ floor_columns comparison floors (factor_of negative) value.now) }
 {
     match comparison {
-        Comparison::Subscripts => push_zeros(row, floors),
+        Comparison::Subscripts => row.push_zeros(floors),
         Comparison::EqualLevels => push_signed(row, negative, value.floors()),
         Comparison::LessLevels => push_signed(row, negative, value.floors()),
         Comparison::GreaterLevels => push_signed(row, negative, value.floors()),
@@ -75,8 +75,8 @@ fn front_columns(
     let mut row = DenseRow::with_capacity(alloc, width)?;
     push_signed(&mut row, turned, a.iterators())?;
     push_signed(&mut row, !turned, b.iterators())?;
-    push_zeros(&mut row, w.source_part)?;
-    push_zeros(&mut row, w.target_part)?;
+    row.push_zeros(w.source_part)?;
+    row.push_zeros(w.target_part)?;
     push_floors(&mut row, comparison, w.source_floors, turned, a)?;
     push_floors(&mut row, comparison, w.target_floors, !turned, b)?;
     Ok(row)

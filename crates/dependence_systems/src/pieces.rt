@@ -2,31 +2,10 @@
 
 ghost use Rattle.std.specs.Prelude.{◌≡◌, ◌≤◌, ◌<◌, ◌+◌, ◌^◌, ◌*ℤ◌, ◌+ℤ◌, [], ◌∷◌, ◌++◌, length, not, unsigned_abs, OnOk, IfErr, MatchOption};
 ghost use Rattle.row_core.specs.Rows.{scale, combined, combined_weight, pair_weight};
-ghost use Rattle.scop_core.specs.SolvedRows.{zeros};
 ghost use Rattle.dependence_systems.specs.Comparisons.{factor_of, one_of};
 
 use row_core::{Coeff, DenseRow, RowFail, Sum};
 use suite_base::NoMemory;
-
-/// Appends `n` zeros.
-pub fn push_zeros(row: &mut DenseRow, n: usize) -> Result<(), NoMemory>
-    ensures { OnOk result (row.new ≡ row.old ++ zeros n) }
-{
-    for _k in 0..n {
-        row.push(Coeff::ZERO)?;
-    }
-    Ok(())
-}
-
-/// Appends all of `coeffs`.
-pub fn push_all(row: &mut DenseRow, coeffs: &[Coeff]) -> Result<(), NoMemory>
-    ensures { OnOk result (row.new ≡ row.old ++ coeffs.now) }
-{
-    for coeff in coeffs {
-        row.push(*coeff)?;
-    }
-    Ok(())
-}
 
 /// The coefficient, or its negative.
 fn signed(negative: bool, coeff: Coeff) -> Coeff

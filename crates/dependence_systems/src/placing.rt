@@ -4,7 +4,6 @@ ghost use Rattle.std.specs.Prelude.{◌≡◌, ◌≤◌, ◌<◌, ◌+◌, ◌+
 ghost use Rattle.dependence_systems.specs.Comparisons.{reach_of, AreLong};
 ghost use Rattle.dependence_systems.specs.Systems.{placed, placed_rows, shape_with};
 
-use crate::pieces::{push_all, push_zeros};
 use crate::widths::{Topic, Widths};
 use relation_core::{Part, PartRow};
 use row_core::{Coeff, DenseRow};
@@ -21,13 +20,13 @@ fn context_row(
     ensures { IfOk result (λ row. row ≡ placed Topic.Context w.now entries.now) }
 {
     let mut row = DenseRow::with_capacity(alloc, width)?;
-    push_zeros(&mut row, w.source)?;
-    push_zeros(&mut row, w.target)?;
-    push_zeros(&mut row, w.source_part)?;
-    push_zeros(&mut row, w.target_part)?;
-    push_zeros(&mut row, w.source_floors)?;
-    push_zeros(&mut row, w.target_floors)?;
-    push_all(&mut row, entries)?;
+    row.push_zeros(w.source)?;
+    row.push_zeros(w.target)?;
+    row.push_zeros(w.source_part)?;
+    row.push_zeros(w.target_part)?;
+    row.push_zeros(w.source_floors)?;
+    row.push_zeros(w.target_floors)?;
+    row.push_all(entries)?;
     Ok(row)
 }
 
@@ -44,13 +43,13 @@ fn source_part_row(
     let (iterators, rest) = entries.split_at(w.source);
     let (locals, rest) = rest.split_at(w.source_part);
     let mut row = DenseRow::with_capacity(alloc, width)?;
-    push_all(&mut row, iterators)?;
-    push_zeros(&mut row, w.target)?;
-    push_all(&mut row, locals)?;
-    push_zeros(&mut row, w.target_part)?;
-    push_zeros(&mut row, w.source_floors)?;
-    push_zeros(&mut row, w.target_floors)?;
-    push_all(&mut row, rest)?;
+    row.push_all(iterators)?;
+    row.push_zeros(w.target)?;
+    row.push_all(locals)?;
+    row.push_zeros(w.target_part)?;
+    row.push_zeros(w.source_floors)?;
+    row.push_zeros(w.target_floors)?;
+    row.push_all(rest)?;
     Ok(row)
 }
 
@@ -67,13 +66,13 @@ fn target_part_row(
     let (iterators, rest) = entries.split_at(w.target);
     let (locals, rest) = rest.split_at(w.target_part);
     let mut row = DenseRow::with_capacity(alloc, width)?;
-    push_zeros(&mut row, w.source)?;
-    push_all(&mut row, iterators)?;
-    push_zeros(&mut row, w.source_part)?;
-    push_all(&mut row, locals)?;
-    push_zeros(&mut row, w.source_floors)?;
-    push_zeros(&mut row, w.target_floors)?;
-    push_all(&mut row, rest)?;
+    row.push_zeros(w.source)?;
+    row.push_all(iterators)?;
+    row.push_zeros(w.source_part)?;
+    row.push_all(locals)?;
+    row.push_zeros(w.source_floors)?;
+    row.push_zeros(w.target_floors)?;
+    row.push_all(rest)?;
     Ok(row)
 }
 
@@ -90,13 +89,13 @@ fn source_floors_row(
     let (iterators, rest) = entries.split_at(w.source);
     let (floors, rest) = rest.split_at(w.source_floors);
     let mut row = DenseRow::with_capacity(alloc, width)?;
-    push_all(&mut row, iterators)?;
-    push_zeros(&mut row, w.target)?;
-    push_zeros(&mut row, w.source_part)?;
-    push_zeros(&mut row, w.target_part)?;
-    push_all(&mut row, floors)?;
-    push_zeros(&mut row, w.target_floors)?;
-    push_all(&mut row, rest)?;
+    row.push_all(iterators)?;
+    row.push_zeros(w.target)?;
+    row.push_zeros(w.source_part)?;
+    row.push_zeros(w.target_part)?;
+    row.push_all(floors)?;
+    row.push_zeros(w.target_floors)?;
+    row.push_all(rest)?;
     Ok(row)
 }
 
@@ -113,13 +112,13 @@ fn target_floors_row(
     let (iterators, rest) = entries.split_at(w.target);
     let (floors, rest) = rest.split_at(w.target_floors);
     let mut row = DenseRow::with_capacity(alloc, width)?;
-    push_zeros(&mut row, w.source)?;
-    push_all(&mut row, iterators)?;
-    push_zeros(&mut row, w.source_part)?;
-    push_zeros(&mut row, w.target_part)?;
-    push_zeros(&mut row, w.source_floors)?;
-    push_all(&mut row, floors)?;
-    push_all(&mut row, rest)?;
+    row.push_zeros(w.source)?;
+    row.push_all(iterators)?;
+    row.push_zeros(w.source_part)?;
+    row.push_zeros(w.target_part)?;
+    row.push_zeros(w.source_floors)?;
+    row.push_all(floors)?;
+    row.push_all(rest)?;
     Ok(row)
 }
 

@@ -167,7 +167,6 @@ apart_by_places n start j k a b sj sk jn kn d za zb fa fb = elim (by_order j k) 
   | inr l ↦
       let h : k < j = omega arith in
       not_same_cells n a b k (omega arith) (λ e. fb (omega arith) (sym e ∙ za k sk h))
-
 ]
 
 -- rows that have no further entry agree

@@ -111,16 +111,15 @@ fn factors_of_difference(a: RowKind, x: Coeff, b: RowKind, y: Coeff) -> Option<(
 
 // One multiplier for each row: those of the two, and else 0.
 fn certificate_of(alloc: Global, rows: usize, found: &Opposed) -> Result<Certificate, NoMemory> {
-    let mut certificate = Certificate::new(alloc);
-    let (first, second) = found.factors;
-    for k in 0..rows {
-        if k == found.first {
-            certificate.push(first)?;
-        } else if k == found.second {
-            certificate.push(second)?;
-        } else {
-            certificate.push(Coeff::ZERO)?;
-        }
-    }
+    let mut certificate = Certificate::zeros(alloc, rows)?;
+    put(&mut certificate, found.first, found.factors.0);
+    put(&mut certificate, found.second, found.factors.1);
     Ok(certificate)
+}
+
+// Puts a multiplier at a place, where there is one.
+fn put(certificate: &mut Certificate, k: usize, multiplier: Coeff) {
+    if k < certificate.len() {
+        certificate.set(k, multiplier);
+    }
 }

@@ -106,21 +106,12 @@ pub fn reduce<R: Row>(alloc: Global, base: &Part) -> Result<Reduced<R>, NoMemory
     let relieved = relieve_all(alloc, started)?;
     let reduced = normalise_sound(alloc, relieved)?;
     let warm = WarmStart::new(alloc, base)?;
-    let base = copied(alloc, base)?;
+    let base = base.copy(alloc)?;
     Ok(Reduced {
         base,
         warm,
         rows: reduced.into_rows(),
     })
-}
-
-// A copy of a part.
-fn copied(alloc: Global, part: &Part) -> Result<Part, NoMemory>
-    ensures { IfOk result (λ made. made ≡ part.now) }
-{
-    let mut made = Part::new(alloc, part.shape());
-    made.conjoin(part)?;
-    Ok(made)
 }
 
 // The rows that have variables, pruned; the same rows where one of them is a contradiction.

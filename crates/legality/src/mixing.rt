@@ -3,7 +3,6 @@
 ghost use Rattle.std.specs.Prelude.{◌≡◌, map, IfOk};
 ghost use Rattle.legality.specs.Mixed.{padded, mixed};
 
-use dependence_systems::pieces::push_zeros;
 use row_core::{Coeff, DenseRow};
 use scop_core::{Affine, Floor, Schedule};
 use std::alloc::Global;
@@ -15,7 +14,7 @@ fn padded_value(alloc: Global, value: &Affine, count: usize) -> Result<Affine, N
 {
     let given = value.floors();
     let mut floors = DenseRow::from_coeffs(alloc, given)?;
-    push_zeros(&mut floors, count.saturating_sub(given.len()))?;
+    floors.push_zeros(count.saturating_sub(given.len()))?;
     Affine::new(
         alloc,
         value.iterators(),

@@ -1,6 +1,7 @@
 //! A part: a system of affine rows over outputs, inputs, existential locals and parameters.
 
 ghost use Rattle.std.specs.Prelude.{◌≡◌, ◌<◌, ◌≤◌, [], length, IfOk, OnOk, OnErr};
+ghost use Rattle.suite_base.specs.Limits.{max_dimensions};
 ghost use Rattle.row_core.specs.Rows.{entry};
 ghost use Rattle.relation_core.specs.Systems.{width, HasLimits, IsWellFormed, row_at, no_rows, with_row, truncated, conjoined, with_local};
 
@@ -52,6 +53,15 @@ impl Part {
         })
     }
 
+    /// A copy of the part.
+    pub fn copy(&self, alloc: Global) -> Result<Part, NoMemory>
+        ensures { IfOk result (λ part. part ≡ self.now) }
+    {
+        let mut made = Part::new(alloc, self.shape);
+        made.conjoin(self)?;
+        Ok(made)
+    }
+
     /// Appends a row, which has one entry for each column and the constant. On want of memory the
     /// part is as before.
     pub fn push_row(&mut self, kind: RowKind, row: &[Coeff]) -> Result<(), NoMemory>
@@ -87,7 +97,7 @@ impl Part {
     /// The part with one more local, whose column is zero and stands before the local `at`, or after
     /// all locals where `at` is their number. There are fewer than 65,536 locals.
     pub fn with_column(&self, alloc: Global, at: usize) -> Result<Part, NoMemory>
-        requires room { self.now.shape.locals < 65536 }
+        requires room { self.now.shape.locals < max_dimensions }
         requires place { at ≤ self.now.shape.locals }
         ensures { IfOk result (λ part. part ≡ with_local self.now at) }
     {

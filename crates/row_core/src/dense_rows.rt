@@ -50,9 +50,7 @@ impl DenseRow {
         ensures { IfOk result (λ row. row ≡ coeffs.now) }
     {
         let mut row = DenseRow::with_capacity(alloc, coeffs.len())?;
-        for coeff in coeffs {
-            row.push(*coeff)?;
-        }
+        row.push_all(coeffs)?;
         Ok(row)
     }
 
@@ -112,6 +110,16 @@ impl DenseRow {
     {
         for _ in 0..count {
             self.push(Coeff::ZERO)?;
+        }
+        Ok(())
+    }
+
+    /// Appends all of `coeffs`.
+    pub fn push_all(&mut self, coeffs: &[Coeff]) -> Result<(), NoMemory>
+        ensures { OnOk result (self.new ≡ self.old ++ coeffs.now) }
+    {
+        for coeff in coeffs {
+            self.push(*coeff)?;
         }
         Ok(())
     }

@@ -12,7 +12,6 @@ use crate::row_roles::{
 };
 use relation_core::{Part, PartRow, Shape};
 use row_core::{Coeff, DenseRow, negated};
-use scop_data::row_builders::push_all;
 use scop_data::{Affine, Floor};
 use std::alloc::Global;
 use suite_base::NoMemory;
@@ -185,9 +184,9 @@ fn without(alloc: Global, row: &[Coeff], k: usize) -> Result<DenseRow, NoMemory>
     ensures { IfOk result (λ made. made ≡ cleared row.now k) }
 {
     let mut made = DenseRow::new(alloc);
-    push_all(&mut made, &row[..k])?;
+    made.push_all(&row[..k])?;
     made.push(Coeff::ZERO)?;
-    push_all(&mut made, &row[k + 1..])?;
+    made.push_all(&row[k + 1..])?;
     Ok(made)
 }
 

@@ -5,7 +5,7 @@ ghost use Rattle.scop_data.specs.ScopData.{arrays_of};
 
 use crate::scops::Scop;
 use row_core::Coeff;
-use scop_data::copies::{copied_part, copied_text, copied_texts};
+use scop_data::copies::{copied_text, copied_texts};
 use scop_data::{RawStatement, ScopPieces};
 use std::alloc::Global;
 use suite_base::{List, NoMemory, Text};
@@ -77,7 +77,7 @@ impl Scop {
     {
         Ok(ScopPieces {
             language: copied_text(alloc, self.language())?,
-            context: copied_part(alloc, self.context())?,
+            context: self.context().copy(alloc)?,
             parameters: copied_names_of(alloc, self)?,
             statements,
             arrays: copied_arrays(alloc, self)?,

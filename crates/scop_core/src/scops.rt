@@ -18,8 +18,7 @@ use crate::limits::{pieces_limit, statements_limit};
 use relation_core::Part;
 use row_core::{Coeff, dense_vectors};
 use scop_data::copies::{
-    beta_vectors, copied_extensions, copied_names, copied_part, copied_statements, copied_text,
-    extensions_with,
+    beta_vectors, copied_extensions, copied_names, copied_statements, copied_text, extensions_with,
 };
 use scop_data::{Extension, RawStatement, ScopPieces, Statement};
 use std::alloc::Global;
@@ -141,7 +140,7 @@ impl Scop {
     {
         Ok(Scop {
             language: copied_text(alloc, &self.language)?,
-            context: copied_part(alloc, &self.context)?,
+            context: self.context.copy(alloc)?,
             parameters: copied_names(alloc, &self.parameters)?,
             statements: copied_statements(alloc, self.statements.as_slice())?,
             arrays: copied_table(alloc, &self.arrays)?,

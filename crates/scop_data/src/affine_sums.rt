@@ -3,11 +3,10 @@
 ghost use Rattle.std.specs.Prelude.{◌≡◌, ◌<◌, ◌≤◌, ◌^◌, pos, ◌+ℤ◌, ◌*ℤ◌, length, MatchOption, IfOk, IfErr, OnOk};
 ghost use Rattle.row_core.specs.Rows.{add_rows, scale, combined_weight, pair_weight};
 ghost use Rattle.scop_data.specs.AffineSums.{HaveOneSize, plus_multiple, moved, negative, widened, last_floor, sum_weight, move_weight};
-ghost use Rattle.scop_data.specs.SolvedRows.{zeros};
 
 use crate::affines::Affine;
 use crate::copies::copied_affine;
-use crate::row_builders::push_zeros;
+use crate::row_builders::zero_row;
 use row_core::{Coeff, DenseRow, RowFail, Sum, add_scaled, negated};
 use std::alloc::Global;
 use suite_base::NoMemory;
@@ -156,13 +155,4 @@ impl Affine {
             constant: Coeff::ZERO,
         })
     }
-}
-
-// The row of `n` zeros.
-fn zero_row(alloc: Global, n: usize) -> Result<DenseRow, NoMemory>
-    ensures { IfOk result (λ row. row ≡ zeros n) }
-{
-    let mut row = DenseRow::new(alloc);
-    push_zeros(&mut row, n)?;
-    Ok(row)
 }

@@ -42,15 +42,6 @@ pub fn copied_coeffs(alloc: Global, items: &[Coeff]) -> Result<List<Coeff>, NoMe
     Ok(made)
 }
 
-/// A copy of a part.
-pub fn copied_part(alloc: Global, part: &Part) -> Result<Part, NoMemory>
-    ensures { IfOk result (λ made. made ≡ part.now) }
-{
-    let mut made = Part::new(alloc, part.shape());
-    made.conjoin(part)?;
-    Ok(made)
-}
-
 /// A copy of a relation.
 pub fn copied_relation(alloc: Global, relation: &Relation) -> Result<Relation, NoMemory>
     ensures { IfOk result (λ made. made ≡ relation.now) }
@@ -58,7 +49,7 @@ pub fn copied_relation(alloc: Global, relation: &Relation) -> Result<Relation, N
     let mut made = Relation::new(alloc);
     let parts = relation.parts();
     for part in parts {
-        match made.push_part(copied_part(alloc, part)?) {
+        match made.push_part(part.copy(alloc)?) {
             Ok(()) => {}
             Err((_, failed)) => return Err(failed),
         }

@@ -5,9 +5,7 @@ ghost use Rattle.scop_data.specs.SolvedRows.{value_row, constant_row, low_row, h
 
 use crate::accesses::Access;
 use crate::affines::Affine;
-use crate::row_builders::{
-    push_all, push_negated, push_raised, push_raised_negated, push_unit, push_zeros, sum_of,
-};
+use crate::row_builders::{push_negated, push_raised, push_raised_negated, push_unit, sum_of};
 use crate::schedules::{Floor, Schedule};
 use relation_core::{Part, Relation, RowKind, Shape};
 use row_core::{Coeff, DenseRow};
@@ -29,9 +27,9 @@ fn push_value_row(
     let shape = part.shape();
     let mut row = DenseRow::new(alloc);
     push_unit(&mut row, shape.outputs, output, Coeff::ONE.negated())?;
-    push_all(&mut row, value.iterators())?;
-    push_all(&mut row, value.floors())?;
-    push_all(&mut row, value.parameters())?;
+    row.push_all(value.iterators())?;
+    row.push_all(value.floors())?;
+    row.push_all(value.parameters())?;
     row.push(value.constant())?;
     part.push_row(RowKind::Equal, row.as_slice())
 }
@@ -50,9 +48,9 @@ fn push_constant_row(
     let shape = part.shape();
     let mut row = DenseRow::new(alloc);
     push_unit(&mut row, shape.outputs, output, Coeff::ONE.negated())?;
-    push_zeros(&mut row, shape.inputs)?;
-    push_zeros(&mut row, shape.locals)?;
-    push_zeros(&mut row, shape.parameters)?;
+    row.push_zeros(shape.inputs)?;
+    row.push_zeros(shape.locals)?;
+    row.push_zeros(shape.parameters)?;
     row.push(constant)?;
     part.push_row(RowKind::Equal, row.as_slice())
 }
@@ -68,10 +66,10 @@ fn push_low_row(alloc: Global, part: &mut Part, local: usize, floor: &Floor) -> 
     let shape = part.shape();
     let value = &floor.value;
     let mut row = DenseRow::new(alloc);
-    push_zeros(&mut row, shape.outputs)?;
-    push_all(&mut row, value.iterators())?;
+    row.push_zeros(shape.outputs)?;
+    row.push_all(value.iterators())?;
     push_raised(&mut row, value.floors(), local, floor.size.negated())?;
-    push_all(&mut row, value.parameters())?;
+    row.push_all(value.parameters())?;
     row.push(value.constant())?;
     part.push_row(RowKind::AtLeast, row.as_slice())
 }
@@ -92,7 +90,7 @@ fn push_high_row(
     let shape = part.shape();
     let value = &floor.value;
     let mut row = DenseRow::new(alloc);
-    push_zeros(&mut row, shape.outputs)?;
+    row.push_zeros(shape.outputs)?;
     push_negated(&mut row, value.iterators())?;
     push_raised_negated(&mut row, value.floors(), local, floor.size.negated())?;
     push_negated(&mut row, value.parameters())?;

@@ -1,20 +1,20 @@
 //! Rows built from pieces: zeros, a coefficient among zeros, and the coefficients of a value.
 
-ghost use Rattle.std.specs.Prelude.{◌≡◌, ◌<◌, ◌^◌, ◌+ℤ◌, pos, neg_ℤ, unsigned_abs, ◌∷◌, ◌++◌, length, map, OnOk};
+ghost use Rattle.std.specs.Prelude.{◌≡◌, ◌<◌, ◌^◌, ◌+ℤ◌, pos, neg_ℤ, unsigned_abs, ◌∷◌, ◌++◌, length, map, IfOk, OnOk};
 ghost use Rattle.row_core.specs.Rows.{entry};
 ghost use Rattle.scop_data.specs.SolvedRows.{zeros, unit, raised};
 
 use row_core::{Coeff, DenseRow};
+use std::alloc::Global;
 use suite_base::NoMemory;
 
-/// Appends `n` zeros.
-pub fn push_zeros(row: &mut DenseRow, n: usize) -> Result<(), NoMemory>
-    ensures { OnOk result (row.new ≡ row.old ++ zeros n) }
+/// The row of `n` zeros.
+pub fn zero_row(alloc: Global, n: usize) -> Result<DenseRow, NoMemory>
+    ensures { IfOk result (λ row. row ≡ zeros n) }
 {
-    for _k in 0..n {
-        row.push(Coeff::ZERO)?;
-    }
-    Ok(())
+    let mut row = DenseRow::with_capacity(alloc, n)?;
+    row.push_zeros(n)?;
+    Ok(row)
 }
 
 /// Appends `n` entries that are zero but for `coeff` at place `k`.
@@ -22,19 +22,9 @@ pub fn push_unit(row: &mut DenseRow, n: usize, k: usize, coeff: Coeff) -> Result
     requires { k < n }
     ensures { OnOk result (row.new ≡ row.old ++ unit n k coeff) }
 {
-    push_zeros(row, k)?;
+    row.push_zeros(k)?;
     row.push(coeff)?;
-    push_zeros(row, n - (k + 1))
-}
-
-/// Appends all of `coeffs`.
-pub fn push_all(row: &mut DenseRow, coeffs: &[Coeff]) -> Result<(), NoMemory>
-    ensures { OnOk result (row.new ≡ row.old ++ coeffs.now) }
-{
-    for coeff in coeffs {
-        row.push(*coeff)?;
-    }
-    Ok(())
+    row.push_zeros(n - (k + 1))
 }
 
 /// Appends the negatives of all of `coeffs`.
@@ -58,9 +48,9 @@ pub fn push_raised(
     requires range { unsigned_abs (entry coeffs.now k +ℤ by) < 2 ^ 127 }
     ensures { OnOk result (row.new ≡ row.old ++ raised coeffs.now k by) }
 {
-    push_all(row, &coeffs[..k])?;
+    row.push_all(&coeffs[..k])?;
     row.push(sum_of(coeffs[k], by))?;
-    push_all(row, &coeffs[k + 1..])
+    row.push_all(&coeffs[k + 1..])
 }
 
 /// Appends the negatives of all of `coeffs`, once `by` is added to the one at place `k`.

@@ -4,7 +4,6 @@ ghost use Rattle.std.specs.Prelude.{◌≡◌, ◌<◌, ◌≤◌, length, IfOk,
 ghost use Rattle.relation_core.specs.Systems.{width};
 ghost use Rattle.elim_core.specs.Reductions.{BeginsWith};
 
-use crate::rows::copied;
 use crate::times::{End, end_of};
 use elim_core::{Reduced, decide_by, decide_with, reduce};
 use relation_core::{Part, PartRow};
@@ -145,7 +144,7 @@ fn base_of(alloc: Global, systems: &[Part], first: usize, end: usize) -> Result<
     requires some { first < end }
     requires within { end ≤ length systems.now }
 {
-    let mut base = copied(alloc, &systems[first])?;
+    let mut base = systems[first].copy(alloc)?;
     for k in first..end {
         let count = common_rows(&base, &systems[k]);
         base.truncate(count);
@@ -157,7 +156,7 @@ fn base_of(alloc: Global, systems: &[Part], first: usize, end: usize) -> Result<
 fn followed(alloc: Global, base: &Part, system: &Part) -> Result<Part, NoMemory>
     ensures { IfOk result (λ made. BeginsWith made base.now) }
 {
-    let mut made = copied(alloc, base)?;
+    let mut made = base.copy(alloc)?;
     for k in base.row_count()..system.row_count() {
         push_copy(&mut made, &system.rows()[k])?;
     }

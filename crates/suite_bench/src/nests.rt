@@ -2,10 +2,11 @@
 //! are made from fixed numbers.
 
 ghost use Rattle.std.specs.Prelude.{◌≡◌, ◌<◌, ◌≤◌, IfOk};
+ghost use Rattle.suite_base.specs.Limits.{max_dimensions};
 ghost use Rattle.elim_core.specs.Reductions.{BeginsWith};
 
 use crate::dice::Dice;
-use crate::rows::{Term, at, copied, push};
+use crate::rows::{Term, at, push};
 use relation_core::{Part, RowKind, Shape};
 use std::alloc::Global;
 use suite_base::NoMemory;
@@ -57,7 +58,7 @@ pub fn at_level(alloc: Global, base: &Part, level: usize) -> Result<Part, NoMemo
     requires { level < LOOPS }
     ensures { IfOk result (λ system. BeginsWith system base.now) }
 {
-    let mut system = copied(alloc, base)?;
+    let mut system = base.copy(alloc)?;
     for d in 0..level {
         push(&mut system, RowKind::Equal, &[at(d, 1), at(d + LOOPS, -1)])?;
     }
@@ -76,8 +77,8 @@ struct Places {
 
 // A part without rows, of three outputs and three inputs.
 fn empty(alloc: Global, locals: usize, parameters: usize) -> Part
-    requires locals { locals ≤ 65536 }
-    requires parameters { parameters ≤ 65536 }
+    requires locals { locals ≤ max_dimensions }
+    requires parameters { parameters ≤ max_dimensions }
 {
     let shape = Shape {
         outputs: LOOPS,

@@ -32,15 +32,6 @@ pub fn push(system: &mut Part, kind: RowKind, terms: &[Term]) -> Result<(), NoMe
     system.push_row(kind, row.as_slice())
 }
 
-/// A copy of a system.
-pub fn copied(alloc: Global, system: &Part) -> Result<Part, NoMemory>
-    ensures { IfOk result (λ made. made ≡ system.now) }
-{
-    let mut made = Part::new(alloc, system.shape());
-    made.conjoin(system)?;
-    Ok(made)
-}
-
 // The entry of column `k`.
 fn entry(terms: &[Term], k: usize) -> Coeff {
     let mut sum: i16 = 0;
