@@ -18,6 +18,7 @@ pub use cursors::Tokens;
 pub use cuts::gap;
 pub use lexers::Lexer;
 pub use pieces::{Piece, piece_bytes};
+pub use place_steps::after_bytes;
 pub use pragmas::{Pragma, is_pragma};
 pub use regions::{RegionFail, Span, find_region};
 pub use stops::Stop;
