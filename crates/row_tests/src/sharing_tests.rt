@@ -26,6 +26,23 @@ impl Row for Barren {
         Ok(Barren { row })
     }
 
+    fn with_capacity(alloc: Global, count: usize) -> Result<Barren, NoMemory> {
+        let row = DenseRow::with_capacity(alloc, count)?;
+        Ok(Barren { row })
+    }
+
+    fn push(&mut self, value: Coeff) -> Result<(), NoMemory> {
+        self.row.push(value)
+    }
+
+    fn push_zeros(&mut self, count: usize) -> Result<(), NoMemory> {
+        self.row.push_zeros(count)
+    }
+
+    fn next_place(&self, start: usize, end: usize) -> usize {
+        self.row.next_place(start, end)
+    }
+
     fn len(&self) -> usize {
         self.row.len()
     }
