@@ -1,11 +1,14 @@
-//! Times of the certificate check, of the elimination, of the commands of a script, and of lexing, parsing and
-//! translating C, on standard error. The names of files as arguments time the decisions of the systems in them instead.
+//! Times of the certificate check, of the elimination, of the commands of a script, of the recovery of schedules, and of
+//! lexing, parsing and translating C, on standard error. The names of files as arguments time the decisions of the
+//! systems in them instead; of a SCoP, whose name ends in `.scop`, those of its dependence systems.
 //! Standard output says only that the runs ended, so that it is always the same.
 #![tactic(auto)]
 
+mod dependences;
 mod dice;
 mod file_times;
 mod nests;
+mod recoveries;
 mod regions;
 mod rows;
 mod runs;
@@ -15,8 +18,10 @@ mod systems;
 mod times;
 mod translations;
 
+use dependences::dependence_time;
 use file_times::file_times;
 use nests::product;
+use recoveries::recovery_time;
 use regions::{assignments, statement_count, token_count};
 use runs::{level_times, nest_totals};
 use scripts::script_time;
@@ -33,13 +38,44 @@ const ROUNDS: u32 = 1_000;
 fn main(rt: HostRuntime) -> Result<(), Fail> {
     let mut has_files = false;
     for name in env::args(&rt)?.skip(1) {
-        time_file(&rt, name.as_str())?;
+        if name.as_bytes().ends_with(b".scop") {
+            time_scop(&rt, name.as_str())?;
+        } else {
+            time_file(&rt, name.as_str())?;
+        }
         has_files = true;
     }
     if !has_files {
         time_all(&rt)?;
     }
     println!(rt; "the runs ended")?;
+    Ok(())
+}
+
+// Times the dependence systems of a SCoP.
+fn time_scop(rt: &HostRuntime, name: &str) -> Result<(), Fail> {
+    let text = fs::read_to_string(rt, name)?;
+    match dependence_time(rt, rt.alloc(), text.as_bytes(), ROUNDS)? {
+        None => eprintln!(rt; "{name}: refused")?,
+        Some(t) => eprintln!(rt;
+            "{name}: {} systems, listed, built and decided {ROUNDS} times: {} us",
+            t.systems,
+            t.spent / 1_000
+        )?,
+    }
+    Ok(())
+}
+
+// Times the recovery of schedules of so many statements in twelve loops.
+fn time_recovery(rt: &HostRuntime, count: u32, in_one: bool) -> Result<(), Fail> {
+    match recovery_time(rt, rt.alloc(), count, in_one)? {
+        None => eprintln!(rt; "recovery of {count} statements: refused")?,
+        Some(t) => eprintln!(rt;
+            "recovery of {count} statements in 12 loops, {} commands: {} us",
+            t.commands,
+            t.spent / 1_000
+        )?,
+    }
     Ok(())
 }
 
@@ -104,6 +140,9 @@ fn time_all(rt: &HostRuntime) -> Result<(), Fail> {
             )?,
         }
     }
+    time_recovery(rt, 1_024, false)?;
+    time_recovery(rt, 1_024, true)?;
+    time_recovery(rt, 171, true)?;
 
     let text = assignments(rt.alloc())?;
     let start = Instant::now(rt)?;
