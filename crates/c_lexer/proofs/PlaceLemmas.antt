@@ -6,7 +6,7 @@ use Rattle.std.proofs.Math.Seq.{take-append-add}
 use Rattle.suite_base.specs.Lines.{lines, put}
 use Rattle.suite_base.specs.declared.places.Place.{Place}
 use Rattle.suite_base.proofs.LineCuts.{bool_tells, in_line}
-use Rattle.c_lexer.specs.Places.{after_byte, after_bytes}
+use Rattle.suite_base.specs.Places.{after_byte, after_bytes}
 use Rattle.c_lexer.specs.Regions.{Standing, behind, first_line}
 use Rattle.c_lexer.proofs.RegionLemmas.{standing, goes_by, stops_at}
 

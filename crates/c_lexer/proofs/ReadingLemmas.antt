@@ -5,7 +5,7 @@ use Rattle.std.proofs.lemmas.Bool.{eqb-true}
 use Rattle.std.proofs.lemmas.Bool.Decides.{eqb_tells}
 use Rattle.suite_base.specs.declared.places.Place.{Place}
 use Rattle.suite_base.proofs.LineCuts.{bool_tells}
-use Rattle.c_lexer.specs.Places.{after_byte, after_bytes, place_at}
+use Rattle.suite_base.specs.Places.{after_byte, after_bytes, place_at}
 use Rattle.c_lexer.specs.declared.tokens.TokenKind.{TokenKind}
 use Rattle.c_lexer.specs.declared.tokens.Token.{Token}
 use Rattle.c_lexer.specs.Tokens.{gap, token_at}

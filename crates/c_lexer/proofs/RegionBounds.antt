@@ -4,7 +4,7 @@ use Rattle.suite_base.specs.Lines.{lines}
 use Rattle.c_lexer.specs.declared.regions.Standing as code
 use Rattle.c_lexer.specs.declared.pragmas.Pragma.TheVariants.{Scop, Endscop}
 use Rattle.c_lexer.specs.Pragmas.{is_pragma}
-use Rattle.c_lexer.specs.Places.{place_at}
+use Rattle.suite_base.specs.Places.{place_at}
 use Rattle.c_lexer.specs.Regions.{first_line, seen, region_of, region_from, region_between}
 use Rattle.c_lexer.proofs.RegionLemmas.{Counts, counts, bytes_within, bytes_over}
 use Rattle.c_lexer.proofs.PlaceLemmas.{placed, place_of, place_is}

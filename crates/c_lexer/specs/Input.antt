@@ -10,7 +10,7 @@ use Rattle.c_lexer.specs.declared.stops.Stop.TheVariants.{Memory, Refused}
 use Rattle.c_lexer.specs.declared.pieces.Piece.{Piece}
 use Rattle.c_lexer.specs.declared.symbols.Symbol.{Symbol}
 use Rattle.c_lexer.specs.declared.symbols.Symbol.TheVariants as s
-use Rattle.c_lexer.specs.Places.{place_at}
+use Rattle.suite_base.specs.Places.{place_at}
 use Rattle.c_lexer.specs.Readings.{Reading, Lexeme, slice, next}
 use Rattle.c_lexer.specs.Pieces.{bytes_of}
 use Rattle.c_lexer.specs.Symbols.{symbol_of, same_symbol}

@@ -1,5 +1,4 @@
 pub mod Pragmas
-pub mod Places
 pub mod Regions
 pub mod Tokens
 pub mod Readings

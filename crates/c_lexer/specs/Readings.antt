@@ -3,7 +3,7 @@ use Rattle.std.specs.Prelude.{◌≡◌, ℕ, ◌+◌, ◌-◌, if◌then◌else
 use Rattle.c_lexer.specs.declared.tokens.TokenKind.{TokenKind}
 use Rattle.c_lexer.specs.declared.tokens.Token.{Token}
 use Rattle.c_lexer.specs.declared.tokens.BadToken.{BadToken}
-use Rattle.c_lexer.specs.Places.{place_at}
+use Rattle.suite_base.specs.Places.{place_at}
 use Rattle.c_lexer.specs.Tokens.{gap, token_at}
 
 -- a text, and how many of its bytes were read

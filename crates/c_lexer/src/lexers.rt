@@ -1,18 +1,17 @@
 //! Cuts a region into tokens, one at a time.
 
 ghost use Rattle.std.specs.Prelude.{◌≡◌, ◌<◌, ◌≤◌, ◌+◌, ◌-◌, ◌^◌, length, take, drop, IfOk, IfNone, OnErr, Ok, None};
-ghost use Rattle.c_lexer.specs.Places.{place_at};
+ghost use Rattle.suite_base.specs.Places.{place_at};
 ghost use Rattle.c_lexer.specs.Tokens.{gap};
 ghost use Rattle.c_lexer.specs.Pieces.{bytes_of};
 ghost use Rattle.c_lexer.specs.Readings as spec;
 
 use crate::cuts::{gap, token_at};
 use crate::pieces::{Piece, piece_bytes};
-use crate::place_steps::after_bytes;
 use crate::regions::Span;
 use crate::tokens::{BadToken, Token};
 use std::marker::Model;
-use suite_base::Place;
+use suite_base::{Place, after_bytes};
 
 /// Reads the tokens of a span in order. A contract sees the text up to the span's end, and how many
 /// of its bytes were read.
@@ -25,7 +24,7 @@ pub struct Lexer<'a> {
 
 impl<'a> Model for Lexer<'a> {
     ghost use Rattle.std.specs.Prelude.{◌≡◌, ◌<◌, ◌≤◌, ◌-◌, ◌^◌, length};
-    ghost use Rattle.c_lexer.specs.Places.{place_at};
+    ghost use Rattle.suite_base.specs.Places.{place_at};
     ghost use Rattle.c_lexer.specs.Readings.{Reading};
 
     ghost Value = { Reading };

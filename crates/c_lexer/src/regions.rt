@@ -3,7 +3,7 @@
 ghost use Rattle.std.specs.Prelude.{◌≡◌, ◌<◌, ◌≤◌, ◌+◌, ◌-◌, ◌^◌, Some, None, length, IfOk, IfSome, IfNone};
 ghost use Rattle.suite_base.specs.Lines.{lines};
 ghost use Rattle.c_lexer.specs.Pragmas as pragma;
-ghost use Rattle.c_lexer.specs.Places.{place_at};
+ghost use Rattle.suite_base.specs.Places.{place_at};
 ghost use Rattle.c_lexer.specs.Regions as spec;
 
 use crate::pragmas::{Pragma, is_pragma};

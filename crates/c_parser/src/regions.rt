@@ -1,7 +1,7 @@
 //! The parser's entry: the span of a region to its statements.
 
 ghost use Rattle.std.specs.Prelude.{◌≡◌, ◌<◌, ◌≤◌, ◌-◌, ◌^◌, length, IfOk};
-ghost use Rattle.c_lexer.specs.Places.{place_at};
+ghost use Rattle.suite_base.specs.Places.{place_at};
 ghost use Rattle.c_parser.specs.Regions as spec;
 
 use crate::statements::region;

@@ -1,7 +1,7 @@
 //! Regions that are read, and the refusal of each that is not.
 
 ghost use Rattle.std.specs.Prelude.{◌≡◌, ◌≤◌, length};
-ghost use Rattle.c_lexer.specs.Places.{place_at};
+ghost use Rattle.suite_base.specs.Places.{place_at};
 
 use c_lexer::Span;
 use c_parser::{Node, parse_region};

@@ -13,7 +13,8 @@ use Rattle.clay_script.specs.declared.tokens.Token.{Token}
 use Rattle.clay_script.specs.declared.tokens.Token.TheVariants.{End}
 use Rattle.clay_script.specs.declared.tokens.Lexeme.{Lexeme}
 use Rattle.clay_script.specs.declared.commands.Command.{Command}
-use Rattle.clay_script.specs.Lexemes.{is_gap, token_of, token_length, place_after, line_length, lexemes}
+use Rattle.suite_base.specs.Places.{after_byte}
+use Rattle.clay_script.specs.Lexemes.{is_gap, token_of, token_length, line_length, lexemes}
 use Rattle.clay_script.specs.Taking.{left_after}
 use Rattle.clay_script.specs.Reading.{commands_at, Answers}
 use Rattle.clay_script.specs.Grammar.{script_tokens, tokens_of, GoesOn, names_in, IsFault, FirstFault, Refuses}
@@ -38,16 +39,16 @@ not_the_end b word t e =
 
 pub text_is : (skip : ℕ) (at : Place) (s : List ℕ) → IsText (lexemes skip at s)
 text_is skip at [] = refl
-text_is (suc skip) at (b ∷ s) = text_is skip (place_after at b) s
+text_is (suc skip) at (b ∷ s) = text_is skip (after_byte at b) s
 text_is zero at (b ∷ s) =
     elim (bool_tells (is_gap b)) [
-      | inl gap ↦ rw gap (text_is 0 (place_after at b) s)
+      | inl gap ↦ rw gap (text_is 0 (after_byte at b) s)
       | inr none ↦ elim (bool_tells (b == 35)) [
-        | inl comment ↦ rw (none, comment) (text_is (line_length s) (place_after at b) s)
-        | inr token ↦ subst IsText (sym (lexemes_at at b s none token)) (text_more (lexeme_of (token_length (b ∷ s)) at (b ∷ s)) (lexemes (token_length (b ∷ s) - 1) (place_after at b) s)
+        | inl comment ↦ rw (none, comment) (text_is (line_length s) (after_byte at b) s)
+        | inr token ↦ subst IsText (sym (lexemes_at at b s none token)) (text_more (lexeme_of (token_length (b ∷ s)) at (b ∷ s)) (lexemes (token_length (b ∷ s) - 1) (after_byte at b) s)
             (λ e. not_the_end b (take (token_length (b ∷ s) - 1) s) (record { token = End; place = at })
             (ap (λ n. token_of (take n (b ∷ s))) (sym (some_length b s)) ∙ e))
-            (text_is (token_length (b ∷ s) - 1) (place_after at b) s))
+            (text_is (token_length (b ∷ s) - 1) (after_byte at b) s))
       ]
     ]
 

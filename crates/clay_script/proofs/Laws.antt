@@ -5,7 +5,7 @@ use Rattle.suite_base.specs.declared.refusals.Refusal.{Refusal}
 use Rattle.clay_script.specs.declared.tokens.Token.{Token}
 use Rattle.clay_script.specs.declared.tokens.Token.TheVariants.{Number, OpenRound, CloseRound, OpenSquare, CloseSquare, Comma, Semicolon, End}
 use Rattle.clay_script.specs.declared.tokens.Lexeme.{Lexeme}
-use Rattle.clay_script.specs.Lexemes.{first_place}
+use Rattle.suite_base.specs.Places.{first_place}
 use Rattle.clay_script.specs.Reading.{◌>>=◌, fault_of, same_sign, sign_at, number_of, number_at, ended}
 use Rattle.clay_script.specs.Grammar.{tokens_of, one_number}
 use Rattle.clay_script.proofs.Loops.{read_ok, read_err, same_value, same_left, same_refusal, not_both, number_is}

@@ -10,7 +10,8 @@ use Rattle.suite_base.proofs.LineCuts.{bool_tells}
 use Rattle.clay_script.specs.declared.tokens.Token.{Token}
 use Rattle.clay_script.specs.declared.tokens.Lexeme.{Lexeme}
 use Rattle.suite_base.specs.Bytes.{is_letter}
-use Rattle.clay_script.specs.Lexemes.{is_gap, begins_number, sign_token, number_token, token_of, token_length, place_after, lexemes}
+use Rattle.suite_base.specs.Places.{after_byte}
+use Rattle.clay_script.specs.Lexemes.{is_gap, begins_number, sign_token, number_token, token_of, token_length, lexemes}
 use Rattle.clay_script.specs.Taking.{left_after, Takes, BeginsToken}
 
 pub prefix_within : (p : ℕ → Bool) (s : List ℕ) → prefix_len p s ≤ length s
@@ -52,7 +53,7 @@ abbrev pub lexeme_of : ℕ → Place → List ℕ → Lexeme
 lexeme_of k at s = record { token = token_of (take k s); place = at }
 
 pub lexemes_at : (at : Place) (b : ℕ) (s : List ℕ) → is_gap b ≡ false → (b == 35) ≡ false
-    → lexemes 0 at (b ∷ s) ≡ lexeme_of (token_length (b ∷ s)) at (b ∷ s) ∷ lexemes (token_length (b ∷ s) - 1) (place_after at b) s
+    → lexemes 0 at (b ∷ s) ≡ lexeme_of (token_length (b ∷ s)) at (b ∷ s) ∷ lexemes (token_length (b ∷ s) - 1) (after_byte at b) s
 lexemes_at at b s e f = rw (e, f) refl
 
 pub taken : (at : Place) (s : List ℕ) (after : List Lexeme) → BeginsToken s → after ≡ lexemes (token_length s) at s
@@ -62,6 +63,6 @@ taken at (b ∷ s) after begins e =
     let none = neither (is_gap b) (b == 35) begins in
     let k : ℕ = token_length (b ∷ s) - 1 in
     let size : token_length (b ∷ s) ≡ suc k = some_length b s in
-    let left : after ≡ lexemes k (place_after at b) s = e ∙ ap (λ n. lexemes n at (b ∷ s)) size in
+    let left : after ≡ lexemes k (after_byte at b) s = e ∙ ap (λ n. lexemes n at (b ∷ s)) size in
     let whole : left_after (token_of (take (token_length (b ∷ s)) (b ∷ s))) after ≡ after = ap (λ n. left_after (token_of (take n (b ∷ s))) after) size ∙ goes_on b (take k s) after in
     lexemes_at at b s none.0 none.1 ∙ ap (λ (l : List Lexeme). lexeme_of (token_length (b ∷ s)) at (b ∷ s) ∷ l) (sym left ∙ sym whole)

@@ -21,7 +21,8 @@ use Rattle.clay_script.specs.declared.commands.Command.{Command}
 use Rattle.clay_script.specs.Names.{letters_of}
 use Rattle.clay_script.specs.Commands.{Argument, OneNumber, OneVector, name_of, prefix_of, more_of, arguments_of}
 use Rattle.suite_base.specs.Bytes.{is_letter}
-use Rattle.clay_script.specs.Lexemes.{is_gap, begins_number, number_token, token_of, token_length, place_after, line_length, lexemes, first_place}
+use Rattle.suite_base.specs.Places.{after_byte, first_place}
+use Rattle.clay_script.specs.Lexemes.{is_gap, begins_number, number_token, token_of, token_length, line_length, lexemes}
 use Rattle.clay_script.specs.Layout.{behind_comma, comma_joined, vector_text, argument_text, command_text, layout, FitsArgument, FitArguments, FitCommands}
 use Rattle.clay_script.specs.Grammar.{after_comma, one_number, separated, vector_tokens, argument_tokens, command_tokens, script_tokens, tokens_of, IsScript}
 
@@ -44,15 +45,15 @@ plain_choice false x y v w e f = f
 
 pub plain_is : (skip : ℕ) (at : Place) (s : List ℕ) → tokens_of (lexemes skip at s) ≡ plain skip s
 plain_is skip at [] = refl
-plain_is (suc skip) at (b ∷ rest) = plain_is skip (place_after at b) rest
+plain_is (suc skip) at (b ∷ rest) = plain_is skip (after_byte at b) rest
 plain_is zero at (b ∷ rest) =
     let token : Lexeme = record { token = token_of (take (token_length (b ∷ rest)) (b ∷ rest)); place = at } in
-    let later : List Lexeme = token ∷ lexemes (token_length (b ∷ rest) - 1) (place_after at b) rest in
-    tokens_choice (is_gap b) (lexemes 0 (place_after at b) rest) (cond (b == 35) (lexemes (line_length rest) (place_after at b) rest) later)
-    ∙ plain_choice (is_gap b) _ _ _ _ (plain_is 0 (place_after at b) rest)
-    (tokens_choice (b == 35) (lexemes (line_length rest) (place_after at b) rest) later
-    ∙ plain_choice (b == 35) _ _ _ _ (plain_is (line_length rest) (place_after at b) rest)
-    (ap (λ (l : List Token). token.token ∷ l) (plain_is (token_length (b ∷ rest) - 1) (place_after at b) rest)))
+    let later : List Lexeme = token ∷ lexemes (token_length (b ∷ rest) - 1) (after_byte at b) rest in
+    tokens_choice (is_gap b) (lexemes 0 (after_byte at b) rest) (cond (b == 35) (lexemes (line_length rest) (after_byte at b) rest) later)
+    ∙ plain_choice (is_gap b) _ _ _ _ (plain_is 0 (after_byte at b) rest)
+    (tokens_choice (b == 35) (lexemes (line_length rest) (after_byte at b) rest) later
+    ∙ plain_choice (b == 35) _ _ _ _ (plain_is (line_length rest) (after_byte at b) rest)
+    (ap (λ (l : List Token). token.token ∷ l) (plain_is (token_length (b ∷ rest) - 1) (after_byte at b) rest)))
 
 plain_past : (word rest : List ℕ) → plain (length word) (word ++ rest) ≡ plain 0 rest
 plain_past [] rest = refl

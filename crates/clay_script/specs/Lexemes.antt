@@ -4,6 +4,7 @@ use Rattle.std.specs.List.{prefix_len}
 use Rattle.suite_base.specs.declared.places.Place.{Place}
 use Rattle.suite_base.specs.declared.numbers.NumberRead.{NumberRead}
 use Rattle.suite_base.specs.declared.numbers.NumberRead.TheVariants as read
+use Rattle.suite_base.specs.Places.{first_place, after_byte}
 use Rattle.suite_base.specs.Bytes.{is_letter}
 use Rattle.suite_base.specs.Lines.{is_blank}
 use Rattle.suite_base.specs.Numbers.{is_digit, number_read}
@@ -40,10 +41,6 @@ abbrev pub token_of : List ℕ → Token
 token_of [] = End
 token_of (b ∷ word) = if is_letter b then Name (named (b ∷ word)) else (if begins_number b then number_token (number_read (b ∷ word)) else sign_token b)
 
--- the place after a byte that stands at a place
-abbrev pub place_after : Place → ℕ → Place
-place_after at b = if b == 10 then record { line = at.line + 1; column = 1 } else record { line = at.line; column = at.column + 1 }
-
 -- the number of bytes before the first newline
 abbrev pub line_length : List ℕ → ℕ
 line_length = prefix_len (λ b. not (b == 10))
@@ -52,15 +49,11 @@ line_length = prefix_len (λ b. not (b == 10))
 -- The first `skip` bytes of the text belong to what stands before it.
 abbrev pub lexemes : ℕ → Place → List ℕ → List Lexeme
 lexemes skip at [] = record { token = End; place = at } ∷ []
-lexemes (suc skip) at (b ∷ rest) = lexemes skip (place_after at b) rest
+lexemes (suc skip) at (b ∷ rest) = lexemes skip (after_byte at b) rest
 lexemes zero at (b ∷ rest) =
-    if is_gap b then lexemes 0 (place_after at b) rest
-    else (if b == 35 then lexemes (line_length rest) (place_after at b) rest
-    else record { token = token_of (take (token_length (b ∷ rest)) (b ∷ rest)); place = at } ∷ lexemes (token_length (b ∷ rest) - 1) (place_after at b) rest)
-
--- where a text begins
-abbrev pub first_place : Place
-first_place = record { line = 1; column = 1 }
+    if is_gap b then lexemes 0 (after_byte at b) rest
+    else (if b == 35 then lexemes (line_length rest) (after_byte at b) rest
+    else record { token = token_of (take (token_length (b ∷ rest)) (b ∷ rest)); place = at } ∷ lexemes (token_length (b ∷ rest) - 1) (after_byte at b) rest)
 
 -- the tokens of a whole text
 abbrev pub lexemes_of : List ℕ → List Lexeme

@@ -4,13 +4,16 @@ ghost use Rattle.std.specs.Prelude.{◌≡◌, ◌+◌, ◌-◌, ◌<◌, ◌≤
 ghost use Rattle.std.specs.List.{prefix_len};
 ghost use Rattle.suite_base.specs.Numbers.{is_digit, number_read};
 ghost use Rattle.suite_base.specs.Bytes.{is_letter};
-ghost use Rattle.clay_script.specs.Lexemes.{place_after, first_place, is_gap, begins_number, sign_token, number_token, token_of, token_length, line_length, lexemes};
+ghost use Rattle.suite_base.specs.Places.{first_place};
+ghost use Rattle.clay_script.specs.Lexemes.{is_gap, begins_number, sign_token, number_token, token_of, token_length, line_length, lexemes};
 ghost use Rattle.clay_script.specs.Taking.{Takes, BeginsToken};
 
 use crate::command_names::command_named;
 use crate::tokens::{Lexeme, Token};
 use row_core::Coeff;
-use suite_base::{NumberRead, Place, is_blank_byte, is_digit_byte, is_letter_byte, read_number};
+use suite_base::{
+    NumberRead, Place, after_byte, is_blank_byte, is_digit_byte, is_letter_byte, read_number,
+};
 
 /// What is left of a text, and the place at which it begins.
 #[derive(Drop)]
@@ -73,28 +76,9 @@ impl<'a> Lexer<'a> {
             let [first, rest @ ..] = self.rest else {
                 return;
             };
-            let place = step(self.place, *first);
+            let place = after_byte(self.place, *first);
             *self = Lexer { rest, place };
             left -= 1;
-        }
-    }
-}
-
-// The place after `byte`, which stands at `place`.
-fn step(place: Place, byte: u8) -> Place
-    requires line { place.line + 1 < 2 ^ 32 }
-    requires column { place.column + 1 < 2 ^ 32 }
-    ensures { result ≡ place_after place byte }
-{
-    if byte == b'\n' {
-        Place {
-            line: place.line + 1,
-            column: 1,
-        }
-    } else {
-        Place {
-            line: place.line,
-            column: place.column + 1,
         }
     }
 }

@@ -8,7 +8,7 @@ use Rattle.suite_base.specs.declared.refusals.Refusal.{Refusal}
 use Rattle.suite_base.specs.declared.refusals.Refusal.TheVariants.{NameClash, NotAffine}
 use Rattle.c_lexer.specs.declared.regions.RegionFail.{RegionFail}
 use Rattle.c_lexer.specs.declared.regions.Span.{Span}
-use Rattle.c_lexer.specs.Places.{place_at}
+use Rattle.suite_base.specs.Places.{place_at}
 use Rattle.c_lexer.specs.Regions.{region_of}
 use Rattle.c_parser.specs.declared.tree.Node.{Node}
 use Rattle.c_parser.specs.declared.tree.Region.{Region}

@@ -1,10 +1,9 @@
 //! Places in the source, by line and column.
 
 ghost use Rattle.std.specs.Prelude.{◌≡◌, ◌<◌, ◌-◌, ◌^◌, IfOk, IsOk, length};
-ghost use Rattle.c_lexer.specs.Places as spec;
+ghost use Rattle.suite_base.specs.Places as spec;
 
-use c_lexer::after_bytes;
-use suite_base::{NoMemory, Place};
+use suite_base::{NoMemory, Place, after_bytes};
 
 /// The place of the byte at `at`. In a text of 2^32 - 1 bytes or more it may have no line or column of 32
 /// bits, which is answered as want of memory.

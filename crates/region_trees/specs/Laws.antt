@@ -1,7 +1,7 @@
 -- The laws of the translation of trees.
 use Rattle.std.specs.Prelude.{◌≡◌, ℕ, List, [], length, ℤ, true, Some, None, Ok, Err}
 use Rattle.suite_base.specs.declared.refusals.Refusal.TheVariants.{NameClash}
-use Rattle.c_lexer.specs.Places.{place_at}
+use Rattle.suite_base.specs.Places.{place_at}
 use Rattle.clan_extract.specs.Regions.{Nodes}
 use Rattle.scop_core.specs.ScopData.{ScopData}
 use Rattle.clan_extract.specs.Names.{clash, parameters_in, arrays_in}

@@ -2,7 +2,7 @@
 use Rattle.std.specs.Prelude.{ℕ, List, [], Option, Some, None, Result, Ok, Err}
 use Rattle.suite_base.specs.declared.refusals.Refusal.{Refusal}
 use Rattle.suite_base.specs.declared.refusals.Refusal.TheVariants.{NameClash, NotAffine}
-use Rattle.c_lexer.specs.Places.{place_at}
+use Rattle.suite_base.specs.Places.{place_at}
 use Rattle.c_parser.specs.declared.tree.Node.{Node}
 use Rattle.scop_core.specs.ScopData.{ScopData}
 use Rattle.clan_extract.specs.Regions.{Nodes}

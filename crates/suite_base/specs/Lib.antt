@@ -7,3 +7,4 @@ pub mod Limits
 pub mod Bytes
 pub mod Sequences
 pub mod Results
+pub mod Places

@@ -34,7 +34,7 @@ pub use memory_fakes::{MemFiles, MemSink, MemSource};
 pub use name_bytes::{begins_name_byte, is_letter_byte, is_name_byte};
 pub use numbers::{NumberRead, are_all_digits, is_digit_byte, read_number};
 pub use outside::{Failed, Files, Sink, Source};
-pub use places::Place;
+pub use places::{Place, after_byte, after_bytes};
 pub use reading::{ReadFail, read_all};
 pub use refusals::{Entry, Fail, Fields, Refusal, Where, Which};
 pub use sure_fakes::{SureFiles, SureSink, SureSource};

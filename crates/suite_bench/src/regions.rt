@@ -1,7 +1,7 @@
 //! A long region of C, which is timed through lexer and parser.
 
 ghost use Rattle.std.specs.Prelude.{◌≡◌, ◌<◌, ◌≤◌, ◌-◌, ◌^◌, length, IfSome};
-ghost use Rattle.c_lexer.specs.Places.{place_at};
+ghost use Rattle.suite_base.specs.Places.{place_at};
 
 use c_lexer::{Lexer, Span, find_region};
 use c_parser::parse_region;

@@ -18,7 +18,8 @@ use Rattle.clay_script.specs.declared.commands.Command.{Command}
 use Rattle.clay_script.specs.declared.commands.Command.TheVariants.{Fission, Fuse, Reorder, Interchange, Skew, Shift, Reverse, Stripmine, Tile, Iss}
 use Rattle.clay_script.specs.declared.tokens.Lexeme.{Lexeme}
 use Rattle.clay_script.specs.Commands.{prefix_of}
-use Rattle.clay_script.specs.Lexemes.{lexemes_of, first_place}
+use Rattle.suite_base.specs.Places.{first_place}
+use Rattle.clay_script.specs.Lexemes.{lexemes_of}
 use Rattle.clay_script.specs.Grammar.{script_tokens, tokens_of, IsScript, FirstFault}
 use Rattle.clay_script.specs.Reading.{commands_at}
 use Rattle.clay_script.proofs.Scripts.{all_read, none_read}

@@ -1,5 +1,5 @@
 use Rattle.std.proofs.Common.{◌-◌, ◌∙◌, length, ap, sym}
-use Rattle.c_lexer.specs.Places.{place_at}
+use Rattle.suite_base.specs.Places.{place_at}
 use Rattle.c_lexer.specs.Readings.{Reading}
 use Rattle.c_lexer.specs.Symbols.{symbol_of}
 use Rattle.c_lexer.specs.Input.{symbol, start, here, behind, symbol_from, start_from, here_from, behind_from}

@@ -1,5 +1,6 @@
 use Rattle.std.proofs.Common.{List, ℕ, subst}
-use Rattle.clay_script.specs.Lexemes.{lexemes, lexemes_of, first_place}
+use Rattle.suite_base.specs.Places.{first_place}
+use Rattle.clay_script.specs.Lexemes.{lexemes, lexemes_of}
 use Rattle.clay_script.specs.Reading.{Answers, commands_at}
 use Rattle.clay_script.proofs.Answers.{text_is, found_is, only_is, refused_is, first_is}
 use Rattle.clay_script.proofs.readers.read_script.Goals as goal

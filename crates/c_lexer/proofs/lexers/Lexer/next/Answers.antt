@@ -1,6 +1,6 @@
 use Rattle.std.proofs.Common.{◌∙◌, ◌+◌, ap, length, arith}
 use Rattle.c_lexer.proofs.ReadingLemmas.{bounded, place_then, place_behind, none_left, some_left, Ahead, answer_some, answer_bad}
-use Rattle.c_lexer.specs.Places.{place_at}
+use Rattle.suite_base.specs.Places.{place_at}
 use Rattle.c_lexer.proofs.lexers.Lexer.next.Goals as goal
 
 pub after_bytes-place-requires-clause-line : goal.after_bytes-place-requires-clause-line

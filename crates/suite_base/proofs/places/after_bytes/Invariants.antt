@@ -1,6 +1,6 @@
 use Rattle.std.proofs.Common.{◌≡◌, ◌+◌, ◌-◌, ◌<◌, ◌^◌, length, drop}
-use Rattle.c_lexer.specs.Places.{after_bytes}
-use Rattle.c_lexer.proofs.place_steps.after_bytes.Given as goal
+use Rattle.suite_base.specs.Places.{after_bytes}
+use Rattle.suite_base.proofs.places.after_bytes.Given as goal
 
 abbrev pub invariant-loop-b : goal.invariant-loop-b
 invariant-loop-b l = record {
