@@ -1,9 +1,10 @@
 -- The value of a row is linear in the row; entries and limits, column by column.
 use Rattle.std.specs.Prelude.{ℤ, ◌+ℤ◌, ◌*ℤ◌, ◌≡◌, pos, ℕ, zero, suc, ◌^◌, ◌≤◌, ◌<◌, List, [], ◌∷◌, ◌++◌, length, drop, max, ◌+◌, ◌-◌, unsigned_abs, insert, swap}
-use Rattle.std.proofs.Common.{ap, inl, inr, ◌∙◌, subst, arith}
+use Rattle.std.proofs.Common.{ap, inl, inr, ◌∙◌, subst, sym, arith, append_assoc}
 use Rattle.std.proofs.Math.ListN.{set}
 use Rattle.std.proofs.Math.Seq.{drop-cons}
 use Rattle.std.proofs.lemmas.Bool.{cases_lt}
+use Rattle.std.proofs.lemmas.List.{append-nil}
 use Rattle.std.proofs.lemmas.List.Edits.{swap_is}
 use Rattle.row_core.specs.Rows.{entry, combined, pair_weight, combined_weight, IsHeavy, AreCoefficients}
 pub use Rattle.row_core.specs.Linear.{dot_add, dot_scale, combined_is, dot_combined}
@@ -18,6 +19,13 @@ bound_more (y ∷ row) x f h (suc k) = bound_more row x (λ j. f (suc j)) h k
 -- appending a coefficient keeps all entries in range
 pub coefficients_more : (row : List ℤ) (x : ℤ) → AreCoefficients row → unsigned_abs x < 2 ^ 127 → AreCoefficients (row ++ x ∷ [])
 coefficients_more row x r h = record { bound = bound_more row x r.bound h }
+
+-- so does appending a list of them
+pub coefficients_append : (row more : List ℤ) → AreCoefficients row → AreCoefficients more → AreCoefficients (row ++ more)
+coefficients_append row [] r m = subst AreCoefficients (sym (append-nil row)) r
+coefficients_append row (x ∷ more) r m =
+    subst AreCoefficients (append_assoc row (x ∷ []) more)
+    (coefficients_append (row ++ x ∷ []) more (coefficients_more row x r (m.bound 0)) (record { bound = λ k. m.bound (suc k) }))
 
 bound_insert : (row : List ℤ) (i : ℕ) (x : ℤ) → ((k : ℕ) → unsigned_abs (entry row k) < 2 ^ 127) → unsigned_abs x < 2 ^ 127
     → (k : ℕ) → unsigned_abs (entry (insert row i x) k) < 2 ^ 127

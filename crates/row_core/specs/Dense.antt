@@ -1,5 +1,5 @@
 -- The dense numbering of vectors.
-use Rattle.std.specs.Prelude.{ℕ, ℤ, Bool, if◌then◌else◌, List, [], ◌∷◌, map, filter, int_lt}
+use Rattle.std.specs.Prelude.{ℕ, ℤ, if◌then◌else◌, List, [], ◌∷◌, map, filter, int_lt}
 use Rattle.std.specs.Set.{distinct_count}
 use Rattle.std.specs.Ordering.{int_eq}
 

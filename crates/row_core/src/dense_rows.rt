@@ -118,9 +118,8 @@ impl DenseRow {
     pub fn push_all(&mut self, coeffs: &[Coeff]) -> Result<(), NoMemory>
         ensures { OnOk result (self.new ≡ self.old ++ coeffs.now) }
     {
-        for coeff in coeffs {
-            self.push(*coeff)?;
-        }
+        see_ranges(coeffs);
+        self.coeffs.extend_from_slice(coeffs)?;
         Ok(())
     }
 
@@ -145,7 +144,9 @@ impl DenseRow {
     pub fn copy(&self, alloc: Global) -> Result<DenseRow, NoMemory>
         ensures { IfOk result (λ row. row ≡ self.now) }
     {
-        DenseRow::from_coeffs(alloc, self.as_slice())
+        Ok(DenseRow {
+            coeffs: SmallVec::from_slice(alloc, self.coeffs.as_slice())?,
+        })
     }
 
     /// Lets the entries at `i` and `j`, both below the length, change places.
@@ -155,5 +156,14 @@ impl DenseRow {
         ensures { self.new ≡ swap self.old i j }
     {
         self.coeffs.as_mut_slice().swap(i, j);
+    }
+}
+
+// Tells the range of each of `coeffs`; it compiles to nothing.
+fn see_ranges(coeffs: &[Coeff])
+    ensures { AreCoefficients coeffs.now }
+{
+    for coeff in coeffs {
+        let _in_range = coeff.value();
     }
 }
