@@ -9,7 +9,7 @@ use Rattle.std.proofs.lemmas.Cmp.{int_cmp_total, int_eq_equiv, tied_itself}
 use Rattle.std.proofs.lemmas.Bool.Decides.{Decides-int_eq}
 use Rattle.std.proofs.lemmas.Map.Made.{is_member-filter, alike_from_same}
 use Rattle.std.proofs.lemmas.List.Elements.{All-nil, All-cons, All-weaker}
-use Rattle.row_core.proofs.DenseSteps.{lesser_few, length_rests}
+use Rattle.row_core.proofs.DenseBounds.{lesser_few, length_rests}
 use Rattle.row_core.specs.Dense.{heads, rests, lesser, dense_among}
 use Rattle.row_core.specs.DenseOrder.{numbered_after}
 

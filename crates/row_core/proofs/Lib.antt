@@ -3,7 +3,7 @@ pub mod Ring
 pub mod Rows
 pub mod Sparse
 pub mod Places
-pub mod DenseSteps
+pub mod DenseBounds
 pub mod DenseOrder
 pub mod DenseSlices
 pub mod DensePlaces

@@ -1,11 +1,8 @@
--- The dense numbering of a vector, entry by entry.
-use Rattle.std.proofs.Common.{◌≡◌, ℕ, ℤ, ◌+◌, ◌<◌, ◌≤◌, Bool, true, false, if◌then◌else◌, cond, List, [], ◌∷◌, ◌++◌, length, filter, sym, ◌∙◌, ap, arith, int_lt, drop, get_or, append_assoc, add-one}
-use Rattle.std.proofs.Math.Seq.{drop-cons}
+-- Bounds of the dense numbering.
+use Rattle.std.proofs.Common.{ℕ, ℤ, ◌≤◌, Bool, true, false, if◌then◌else◌, cond, List, [], ◌∷◌, length, filter, arith, int_lt}
 use Rattle.std.specs.Ordering.{int_eq}
 use Rattle.std.proofs.lemmas.Map.Made.{distinct_count-le}
-use Rattle.row_core.specs.Dense.{heads, rests, lesser, dense_among}
-
--- a dense number is at most the number of vectors
+use Rattle.row_core.specs.Dense.{heads, rests, lesser}
 
 length_filter : {A : Type 0} (test : A → Bool) (xs : List A) → length (filter test xs) ≤ length xs
 length_filter test [] = omega arith
@@ -18,6 +15,7 @@ length_heads [] = omega arith
 length_heads ([] ∷ V) = let h = length_heads V in omega arith
 length_heads ((x ∷ v) ∷ V) = let h = length_heads V in omega arith
 
+-- a dense number is at most the number of vectors
 pub lesser_few : (x : ℤ) (V : List (List ℤ)) → lesser x (heads V) ≤ length V
 lesser_few x V =
     let a = distinct_count-le int_eq (filter (λ y. int_lt y x) (heads V)) in
@@ -31,9 +29,3 @@ length_rests x ([] ∷ V) = let h = length_rests x V in omega arith
 length_rests x ((y ∷ v) ∷ V) =
     let h = length_rests x V in
     elim (int_eq y x) as (λ b. length (if b then v ∷ rests x V else rests x V) ≤ length ((y ∷ v) ∷ V)) [ true ↦ omega arith | false ↦ omega arith ]
-
--- a step of the numbering
-pub dense_step : (made next all : List ℕ) (G H : List (List ℤ)) (v : List ℤ) (i : ℕ) (x d : ℤ) (n : ℕ) → made ++ dense_among G (drop i v) ≡ all → i < length v → x ≡ get_or v i d → n ≡ lesser x (heads G) → H ≡ rests x G → next ≡ made ++ n ∷ [] → next ++ dense_among H (drop (i + 1) v) ≡ all
-dense_step made next all G H v i x d n so_far l is number group pushed =
-    let whole : drop i v ≡ x ∷ drop (i + 1) v = rw add-one (rw is (drop-cons v i d l)) in
-    rw (pushed, append_assoc, number, group) (sym (ap (λ z. made ++ dense_among G z) whole) ∙ so_far)
