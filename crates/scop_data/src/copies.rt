@@ -91,8 +91,8 @@ fn copied_floor(alloc: Global, floor: &Floor) -> Result<Floor, NoMemory>
     })
 }
 
-// A copy of a list of floors.
-fn copied_floors(alloc: Global, items: &[Floor]) -> Result<List<Floor>, NoMemory>
+/// A copy of a list of floors.
+pub fn copied_floors(alloc: Global, items: &[Floor]) -> Result<List<Floor>, NoMemory>
     ensures { IfOk result (λ made. made ≡ items.now) }
 {
     let mut made = List::new(alloc);
@@ -166,8 +166,8 @@ pub fn copied_extensions(alloc: Global, items: &[Extension]) -> Result<List<Exte
     Ok(made)
 }
 
-// A copy of a statement.
-fn copied_statement(alloc: Global, statement: &Statement) -> Result<Statement, NoMemory>
+/// A copy of a statement.
+pub fn copied_statement(alloc: Global, statement: &Statement) -> Result<Statement, NoMemory>
     ensures { IfOk result (λ made. made ≡ statement.now) }
 {
     Ok(Statement {

@@ -6,9 +6,7 @@ ghost use Rattle.scop_data.specs.SolvedRows.{HasAccessRelation};
 ghost use Rattle.scop_data.specs.SolvedData.{HasRelations};
 
 use crate::accesses::{Access, AccessKind};
-use crate::copies::{
-    copied_accesses, copied_body, copied_extensions, copied_relation, copied_schedule,
-};
+use crate::copies::{copied_body, copied_extensions, copied_relation, copied_statement};
 use crate::raw_pieces::RawStatement;
 use crate::statements::Statement;
 use relation_core::Relation;
@@ -20,13 +18,7 @@ impl Statement {
     pub fn copy(&self, alloc: Global) -> Result<Statement, NoMemory>
         ensures { IfOk result (λ made. made ≡ self.now) }
     {
-        Ok(Statement {
-            domain: copied_relation(alloc, &self.domain)?,
-            schedule: copied_schedule(alloc, &self.schedule)?,
-            accesses: copied_accesses(alloc, self.accesses.as_slice())?,
-            body: copied_body(alloc, &self.body)?,
-            extensions: copied_extensions(alloc, self.extensions.as_slice())?,
-        })
+        copied_statement(alloc, self)
     }
 
     /// The pieces that the statement is printed as, with so many parameters.
