@@ -16,7 +16,7 @@ fn extend(vector: &mut List<u32>, more: &[u32]) -> Result<(), NoMemory>
 }
 
 /// A copy of `vector`.
-pub fn copied(alloc: Global, vector: &[u32]) -> Result<List<u32>, NoMemory>
+pub fn copied_vector(alloc: Global, vector: &[u32]) -> Result<List<u32>, NoMemory>
     ensures { IfOk result (λ copy. copy ≡ vector.now) }
 {
     let mut copy = List::new(alloc);

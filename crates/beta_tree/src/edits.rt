@@ -4,7 +4,7 @@ ghost use Rattle.std.specs.Prelude.{◌≡◌, ◌+◌, ◌<◌, ◌≤◌, ◌^
 ghost use Rattle.beta_tree.specs.Edits.{below, moved_up as up, split_loop, join_loops, reordered, renumbered, with_level, make_room, HasPlaces};
 ghost use Rattle.beta_tree.specs.Vectors.{after as what_follows, Fit};
 
-use crate::copies::{copied, joined};
+use crate::copies::{copied_vector, joined};
 use crate::looks::after;
 use crate::tables::place;
 use std::alloc::Global;
@@ -46,7 +46,7 @@ fn split_rest(
     match rest {
         [x, y, more @ ..] => joined(alloc, siblings, &split_pair(p, first, *x, *y), more),
         [x] => joined(alloc, siblings, &[moved_up(p, *x)], &[]),
-        [] => copied(alloc, siblings),
+        [] => copied_vector(alloc, siblings),
     }
 }
 
@@ -63,7 +63,7 @@ pub fn split_vector(
 {
     match after(siblings, vector) {
         Some(rest) => split_rest(alloc, siblings, p, first, rest),
-        None => copied(alloc, vector),
+        None => copied_vector(alloc, vector),
     }
 }
 
@@ -98,7 +98,7 @@ fn join_rest(
         [x, y, more @ ..] => joined(alloc, siblings, &join_pair(p, count, *x, *y), more),
         [x] if *x > p => joined(alloc, siblings, &[*x - 1], &[]),
         [x] => joined(alloc, siblings, &[*x], &[]),
-        [] => copied(alloc, siblings),
+        [] => copied_vector(alloc, siblings),
     }
 }
 
@@ -116,7 +116,7 @@ pub fn join_vector(
 {
     match after(siblings, vector) {
         Some(rest) => join_rest(alloc, siblings, p, count, rest),
-        None => copied(alloc, vector),
+        None => copied_vector(alloc, vector),
     }
 }
 
@@ -134,7 +134,7 @@ fn reorder_rest(
 {
     match rest {
         [child, more @ ..] => joined(alloc, prefix, &[place(order, places, *child)], more),
-        [] => copied(alloc, prefix),
+        [] => copied_vector(alloc, prefix),
     }
 }
 
@@ -152,7 +152,7 @@ pub fn reorder_vector(
 {
     match after(prefix, vector) {
         Some(rest) => reorder_rest(alloc, prefix, order, places, rest),
-        None => copied(alloc, vector),
+        None => copied_vector(alloc, vector),
     }
 }
 
@@ -169,7 +169,7 @@ pub fn level_vector(
     if after(prefix, vector).is_some() {
         joined(alloc, &vector[..level], &[0], &vector[level..])
     } else {
-        copied(alloc, vector)
+        copied_vector(alloc, vector)
     }
 }
 
@@ -180,7 +180,7 @@ fn room_rest(alloc: Global, siblings: &[u32], p: u32, rest: &[u32]) -> Result<Li
 {
     match rest {
         [x, more @ ..] => joined(alloc, siblings, &[moved_up(p, *x)], more),
-        [] => copied(alloc, siblings),
+        [] => copied_vector(alloc, siblings),
     }
 }
 
@@ -196,6 +196,6 @@ pub fn room_vector(
 {
     match after(siblings, vector) {
         Some(rest) => room_rest(alloc, siblings, p, rest),
-        None => copied(alloc, vector),
+        None => copied_vector(alloc, vector),
     }
 }

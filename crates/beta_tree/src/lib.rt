@@ -12,6 +12,7 @@ mod refusals;
 mod tables;
 
 pub use betas::Betas;
+pub use copies::copied_vector;
 pub use laws::{
     answers_are_trees, dense_stays, fission_keeps_order, fuse_keeps_order, fuse_undoes_fission,
     leaf_keeps_order, level_keeps_order, reorder_undoes_reorder,

@@ -5,7 +5,7 @@ ghost use Rattle.std.specs.List.{flat_map};
 ghost use Rattle.beta_tree.specs.Edits.{below, split_loop, join_loops, reordered, is_permutation_of, with_level, make_room, leaf_split};
 ghost use Rattle.beta_tree.specs.Vectors.{Fit, AllFit, LongerUnder};
 
-use crate::copies::{copied, next_sibling};
+use crate::copies::{copied_vector, next_sibling};
 use crate::edits::{join_vector, level_vector, reorder_vector, room_vector, split_vector};
 use crate::tables::places_in;
 use suite_base::{List, NoMemory};
@@ -95,7 +95,7 @@ fn push_leaves(
 {
     let alloc = made.allocator();
     let next = next_sibling(alloc, siblings, p)?;
-    made.push(copied(alloc, leaf)?)?;
+    made.push(copied_vector(alloc, leaf)?)?;
     made.push(next)
 }
 

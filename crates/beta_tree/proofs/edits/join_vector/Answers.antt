@@ -11,4 +11,4 @@ pub returns-in-Some : goal.returns-in-Some
 returns-in-Some c = rw (below_some c.args.siblings.now (join_loops c.args.p c.args.count) c.args.vector.now _ (sym c.in-Some.ensures)) c.join_rest.ensures
 
 pub returns-in-None : goal.returns-in-None
-returns-in-None c = rw (below_other c.args.siblings.now (join_loops c.args.p c.args.count) c.args.vector.now (sym c.in-None.ensures)) c.copied.ensures
+returns-in-None c = rw (below_other c.args.siblings.now (join_loops c.args.p c.args.count) c.args.vector.now (sym c.in-None.ensures)) c.copied_vector.ensures
