@@ -24,7 +24,7 @@ pub fn copied_text(alloc: Global, text: &Text) -> Result<Text, NoMemory>
 pub fn copied_texts(alloc: Global, items: &[Text]) -> Result<List<Text>, NoMemory>
     ensures { IfOk result (λ made. made ≡ items.now) }
 {
-    let mut made = List::new(alloc);
+    let mut made = List::with_capacity(alloc, items.len())?;
     for item in items {
         made.push(copied_text(alloc, item)?)?;
     }
@@ -35,7 +35,7 @@ pub fn copied_texts(alloc: Global, items: &[Text]) -> Result<List<Text>, NoMemor
 pub fn copied_coeffs(alloc: Global, items: &[Coeff]) -> Result<List<Coeff>, NoMemory>
     ensures { IfOk result (λ made. made ≡ items.now) }
 {
-    let mut made = List::new(alloc);
+    let mut made = List::with_capacity(alloc, items.len())?;
     for item in items {
         made.push(*item)?;
     }
@@ -74,7 +74,7 @@ pub fn copied_affine(alloc: Global, value: &Affine) -> Result<Affine, NoMemory>
 pub fn copied_affines(alloc: Global, items: &[Affine]) -> Result<List<Affine>, NoMemory>
     ensures { IfOk result (λ made. made ≡ items.now) }
 {
-    let mut made = List::new(alloc);
+    let mut made = List::with_capacity(alloc, items.len())?;
     for item in items {
         made.push(copied_affine(alloc, item)?)?;
     }
@@ -95,7 +95,7 @@ fn copied_floor(alloc: Global, floor: &Floor) -> Result<Floor, NoMemory>
 pub fn copied_floors(alloc: Global, items: &[Floor]) -> Result<List<Floor>, NoMemory>
     ensures { IfOk result (λ made. made ≡ items.now) }
 {
-    let mut made = List::new(alloc);
+    let mut made = List::with_capacity(alloc, items.len())?;
     for item in items {
         made.push(copied_floor(alloc, item)?)?;
     }
@@ -128,7 +128,7 @@ fn copied_access(alloc: Global, access: &Access) -> Result<Access, NoMemory>
 pub fn copied_accesses(alloc: Global, items: &[Access]) -> Result<List<Access>, NoMemory>
     ensures { IfOk result (λ made. made ≡ items.now) }
 {
-    let mut made = List::new(alloc);
+    let mut made = List::with_capacity(alloc, items.len())?;
     for item in items {
         made.push(copied_access(alloc, item)?)?;
     }
@@ -159,7 +159,7 @@ pub fn copied_extension(alloc: Global, extension: &Extension) -> Result<Extensio
 pub fn copied_extensions(alloc: Global, items: &[Extension]) -> Result<List<Extension>, NoMemory>
     ensures { IfOk result (λ made. made ≡ items.now) }
 {
-    let mut made = List::new(alloc);
+    let mut made = List::with_capacity(alloc, items.len())?;
     for item in items {
         made.push(copied_extension(alloc, item)?)?;
     }
@@ -183,7 +183,7 @@ pub fn copied_statement(alloc: Global, statement: &Statement) -> Result<Statemen
 pub fn copied_statements(alloc: Global, items: &[Statement]) -> Result<List<Statement>, NoMemory>
     ensures { IfOk result (λ made. made ≡ items.now) }
 {
-    let mut made = List::new(alloc);
+    let mut made = List::with_capacity(alloc, items.len())?;
     for item in items {
         made.push(copied_statement(alloc, item)?)?;
     }
@@ -194,7 +194,7 @@ pub fn copied_statements(alloc: Global, items: &[Statement]) -> Result<List<Stat
 pub fn beta_vectors(alloc: Global, items: &[Statement]) -> Result<List<List<Coeff>>, NoMemory>
     ensures { IfOk result (λ made. made ≡ betas_in items.now) }
 {
-    let mut made = List::new(alloc);
+    let mut made = List::with_capacity(alloc, items.len())?;
     for item in items {
         made.push(copied_coeffs(alloc, item.schedule.betas.as_slice())?)?;
     }
