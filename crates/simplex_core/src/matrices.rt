@@ -2,7 +2,7 @@
 
 ghost use Rattle.std.specs.Prelude.{◌≡◌, ◌<◌, ◌≤◌, ◌+◌, IfOk, IfSome, length};
 
-use crate::divisors::{gcd_wide, quotient, sum_of_products};
+use crate::divisors::{Divisor, gcd_wide, sum_of_products};
 use std::alloc::Global;
 use std::marker::Model;
 use suite_base::NoMemory;
@@ -149,30 +149,55 @@ impl Matrix {
         let last = self.columns() - 1;
         let divisor = self.divisor(f, i, h, r)?;
         for j in 0..last {
-            let sum = sum_of_products(f, self.at(i, j), h, self.at(r, j))?;
-            self.set(i, j, quotient(sum, divisor)?);
+            let sum = sum_of_products(f, self.at(i, j), h, self.at(r, j));
+            self.set(i, j, divisor.quotient(sum)?);
         }
-        let product = sum_of_products(f, self.at(i, last), 0, 0)?;
-        self.set(i, last, quotient(product, divisor)?);
+        let product = sum_of_products(f, self.at(i, last), 0, 0);
+        self.set(i, last, divisor.quotient(product)?);
         Some(())
     }
 
-    // A common divisor of the row that `combine` makes.
-    fn divisor(&self, f: i64, i: usize, h: i64, r: usize) -> Option<u128>
+    // A common divisor of the row that `combine` makes; `None` where it passes 2^64 - 1.
+    fn divisor(&self, f: i64, i: usize, h: i64, r: usize) -> Option<Divisor>
         requires columns { 0 < self.now.columns }
         requires row { i < self.now.rows }
         requires other { r < self.now.rows }
     {
         let last = self.columns() - 1;
-        let mut divisor = sum_of_products(f, self.at(i, last), 0, 0)?.unsigned_abs();
+        let product = sum_of_products(f, self.at(i, last), 0, 0).unsigned_abs();
+        if product >= 1 << 64 {
+            return self.wide_divisor(product, f, i, h, r);
+        }
+        let mut divisor = Divisor::new(product as u64);
         for j in 0..last {
-            if divisor == 1 {
-                return Some(1);
+            if divisor.value() == 1 {
+                return Some(divisor);
             }
-            let sum = sum_of_products(f, self.at(i, j), h, self.at(r, j))?;
-            divisor = gcd_wide(divisor, sum.unsigned_abs());
+            let sum = sum_of_products(f, self.at(i, j), h, self.at(r, j)).unsigned_abs();
+            if sum >= 1 << 64 {
+                return self.wide_divisor(product, f, i, h, r);
+            }
+            divisor = divisor.common(sum as u64);
         }
         Some(divisor)
+    }
+
+    // The same, where the `product` of the denominator or a sum passes 2^64 - 1.
+    fn wide_divisor(&self, product: u128, f: i64, i: usize, h: i64, r: usize) -> Option<Divisor>
+        requires columns { 0 < self.now.columns }
+        requires row { i < self.now.rows }
+        requires other { r < self.now.rows }
+    {
+        let mut divisor = product;
+        for j in 0..self.columns() - 1 {
+            let sum = sum_of_products(f, self.at(i, j), h, self.at(r, j));
+            divisor = gcd_wide(divisor, sum.unsigned_abs());
+        }
+        if divisor < 1 << 64 {
+            Some(Divisor::new(divisor as u64))
+        } else {
+            None
+        }
     }
 
     /// Adds `h` times row `r` to row `i`, but for the last cell. `None` where a cell passes 64 bits.

@@ -3,7 +3,7 @@
 
 ghost use Rattle.std.specs.Prelude.{◌≡◌, ◌<◌, ◌+◌, length, OnSome, IfOk, IfSome};
 
-use crate::divisors::gcd;
+use crate::divisors::{Divisor, gcd};
 use crate::matrices::Matrix;
 use std::alloc::Global;
 use std::marker::Model;
@@ -245,10 +245,13 @@ fn lowest_terms(a: i64, b: i64) -> Option<(i64, i64)> {
     if a == 1 {
         return Some((a, b));
     }
-    let divisor = gcd(a.unsigned_abs(), b.unsigned_abs());
-    if divisor >= 1 << 63 {
-        return None;
+    let common = gcd(a.unsigned_abs(), b.unsigned_abs());
+    if common == 1 {
+        return Some((a, b));
     }
-    let divisor = divisor as i64;
-    Some((a.checked_div(divisor)?, b.checked_div(divisor)?))
+    let divisor = Divisor::new(common);
+    Some((
+        divisor.quotient(i128::from(a))?,
+        divisor.quotient(i128::from(b))?,
+    ))
 }

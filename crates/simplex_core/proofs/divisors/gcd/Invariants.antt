@@ -1,4 +1,0 @@
-use Rattle.simplex_core.proofs.divisors.gcd.Given as goal
-
-abbrev pub decreases-loop-b : goal.decreases-loop-b
-decreases-loop-b l = l.b
