@@ -1,6 +1,6 @@
 //! A vector of a script: the numbers between square brackets.
 
-ghost use Rattle.std.specs.Prelude.{◌≡◌, ◌<◌, [], ◌∷◌, ◌++◌, length, slice_get, OnOk, OnErr, OnSome};
+ghost use Rattle.std.specs.Prelude.{◌≡◌, ◌<◌, [], ◌∷◌, ◌++◌, length, slice_get, IfOk, OnOk, OnErr, OnSome};
 ghost use Rattle.std.specs.Option.{option_copied};
 ghost use Rattle.row_core.specs.Rows.{AreCoefficients};
 
@@ -38,6 +38,15 @@ impl Vector {
         Vector {
             numbers: List::new(alloc),
         }
+    }
+
+    /// The empty vector, with room for `capacity` numbers.
+    pub fn with_capacity(alloc: Global, capacity: usize) -> Result<Vector, NoMemory>
+        ensures { IfOk result (λ vector. vector ≡ []) }
+    {
+        Ok(Vector {
+            numbers: List::with_capacity(alloc, capacity)?,
+        })
     }
 
     /// Appends a number. On want of memory the vector is as before.
