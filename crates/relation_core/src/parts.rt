@@ -57,9 +57,11 @@ impl Part {
     pub fn copy(&self, alloc: Global) -> Result<Part, NoMemory>
         ensures { IfOk result (λ part. part ≡ self.now) }
     {
-        let mut made = Part::new(alloc, self.shape);
-        made.conjoin(self)?;
-        Ok(made)
+        let rows = copied(alloc, self.rows.as_slice())?;
+        Ok(Part {
+            shape: self.shape,
+            rows,
+        })
     }
 
     /// Appends a row, which has one entry for each column and the constant. On want of memory the
@@ -70,6 +72,15 @@ impl Part {
         ensures err { OnErr result (self.new ≡ self.old) }
     {
         let entries = DenseRow::from_coeffs(self.allocator(), row)?;
+        self.push_entries(kind, entries)
+    }
+
+    /// As `push_row`, but the row is taken over. On want of memory it goes, and the part is as before.
+    pub fn push_entries(&mut self, kind: RowKind, entries: DenseRow) -> Result<(), NoMemory>
+        requires { length entries ≡ width self.old.shape }
+        ensures ok { OnOk result (self.new ≡ with_row self.old kind entries) }
+        ensures err { OnErr result (self.new ≡ self.old) }
+    {
         let _in_range = entries.len();
         self.rows.push(PartRow { kind, entries })?;
         Ok(())

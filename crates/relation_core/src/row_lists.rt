@@ -12,7 +12,7 @@ use suite_base::NoMemory;
 pub fn copied(alloc: Global, rows: &[PartRow]) -> Result<Vec<PartRow>, NoMemory>
     ensures { IfOk result (λ made. made.items ≡ rows.now) }
 {
-    let mut made = Vec::new(alloc);
+    let mut made = Vec::with_capacity(alloc, rows.len())?;
     for row in rows {
         made.push(row.copy(alloc)?)?;
     }
@@ -24,7 +24,7 @@ pub fn copied_with_zero(alloc: Global, rows: &[PartRow], k: usize) -> Result<Vec
     requires { ReachTo k rows.now }
     ensures { IfOk result (λ made. made.items ≡ map (with_zero k) rows.now) }
 {
-    let mut made = Vec::new(alloc);
+    let mut made = Vec::with_capacity(alloc, rows.len())?;
     for i in 0..rows.len() {
         let mut row = rows[i].copy(alloc)?;
         row.entries.insert(k, Coeff::ZERO)?;
