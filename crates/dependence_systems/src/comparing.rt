@@ -147,7 +147,7 @@ fn push_comparison(
 {
     let width = part.width();
     let row = comparing_row(part.allocator(), width, comparison, w, a, b)?;
-    match part.push_row(comparison.kind(), row.as_slice()) {
+    match part.push_entries(comparison.kind(), row) {
         Ok(()) => Ok(()),
         Err(NoMemory) => Err(RowFail::Memory),
     }

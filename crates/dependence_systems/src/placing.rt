@@ -152,7 +152,7 @@ fn push_placed(part: &mut Part, topic: Topic, w: &Widths, row: &PartRow) -> Resu
 {
     let width = part.width();
     let entries = placed_row(part.allocator(), width, topic, w, row.entries.as_slice())?;
-    part.push_row(row.kind, entries.as_slice())
+    part.push_entries(row.kind, entries)
 }
 
 /// Appends rows of one side.
