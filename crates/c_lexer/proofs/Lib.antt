@@ -4,6 +4,7 @@ pub mod RegionBounds
 pub mod RegionLines
 pub mod TokenLemmas
 pub mod ReadingLemmas
+pub mod NextTokens
 pub mod NumberLemmas
 pub mod WordLemmas
 pub mod TokenFacts

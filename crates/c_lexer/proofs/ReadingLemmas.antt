@@ -60,7 +60,7 @@ pub record Ahead (text : List ℕ) (at : ℕ) (blank rest : List ℕ) : Type 0 w
   pub rest_is : rest ≡ drop (at + length blank) text
   pub whole : at + length blank + length rest ≡ length text
 
-start_is : (text : List ℕ) (at : ℕ) (blank rest : List ℕ) → Ahead text at blank rest → start (reading text at) ≡ at + length blank
+pub start_is : (text : List ℕ) (at : ℕ) (blank rest : List ℕ) → Ahead text at blank rest → start (reading text at) ≡ at + length blank
 start_is text at blank rest h = ap (λ n. at + n) (sym h.gap_is)
 
 abbrev pub lexeme : TokenKind → ℕ → ℕ → Lexeme
@@ -75,14 +75,14 @@ not_end s n m e h = elim (eqb_tells s m) [ inl (p, q) ↦ absurd (omega arith) |
 at_end : (s n m : ℕ) → s + n ≡ m → n < 1 → (s == m) ≡ true
 at_end s n m e h = elim (eqb_tells s m) [ inl (p, q) ↦ p | inr (p, q) ↦ absurd (q (omega arith)) ]
 
-next_token : (text : List ℕ) (at : ℕ) (blank rest : List ℕ) (t : Option (TokenKind × ℕ)) → Ahead text at blank rest → 1 ≤ length rest → t ≡ token_at rest
+pub next_token : (text : List ℕ) (at : ℕ) (blank rest : List ℕ) (t : Option (TokenKind × ℕ)) → Ahead text at blank rest → 1 ≤ length rest → t ≡ token_at rest
     → next (reading text at) ≡ lexeme_at (at + length blank) t
 next_token text at blank rest t h some e =
     ap (next_from text) (start_is text at blank rest h)
     ∙ (ap (λ b. if b then Ok None else lexeme_at (at + length blank) (token_at (drop (at + length blank) text))) (not_end (at + length blank) (length rest) (length text) h.whole some)
     ∙ ap (lexeme_at (at + length blank)) (ap token_at (sym h.rest_is) ∙ sym e))
 
-next_none : (text : List ℕ) (at : ℕ) (blank rest : List ℕ) → Ahead text at blank rest → length rest < 1 → next (reading text at) ≡ Ok None
+pub next_none : (text : List ℕ) (at : ℕ) (blank rest : List ℕ) → Ahead text at blank rest → length rest < 1 → next (reading text at) ≡ Ok None
 next_none text at blank rest h none =
     ap (next_from text) (start_is text at blank rest h)
     ∙ ap (λ b. if b then Ok None else lexeme_at (at + length blank) (token_at (drop (at + length blank) text))) (at_end (at + length blank) (length rest) (length text) h.whole none)

@@ -4,24 +4,24 @@ ghost use Rattle.std.specs.Prelude.{◌≡◌, ◌<◌, ◌≤◌, ◌^◌, leng
 ghost use Rattle.c_lexer.specs.Input as spec;
 ghost use Rattle.c_lexer.specs.Input.{Reads};
 
-use crate::lexers::Lexer;
-use crate::pieces::Piece;
+use crate::cuts::token_at;
+use crate::lexers::{Lexer, ahead};
+use crate::pieces::{Piece, piece_bytes};
 use crate::stops::Stop;
 use crate::symbols::{Symbol, same_symbol, symbol_of};
-use crate::tokens::BadToken;
 use std::marker::Model;
-use suite_base::{Place, Refusal};
+use suite_base::{Place, Refusal, after_bytes};
 
-/// The tokens that are still to come, and what the first of them is.
+/// The tokens that are still to come, and what the first of them is. Its place is computed where it is
+/// refused, and for no other.
 #[derive(Drop)]
 pub struct Tokens<'a> {
-    /// Behind the next token.
-    lexer: Lexer<'a>,
+    text: &'a [u8],
     /// The end of the last token that was taken.
     at: usize,
     symbol: Symbol,
     from: usize,
-    place: Place,
+    to: usize,
 }
 
 impl<'a> Model for Tokens<'a> {
@@ -35,22 +35,22 @@ impl<'a> Model for Tokens<'a> {
     ghost invariant = { IsReady };
 }
 
-// What stands next, where it begins, and its place.
-#[tactic(auto, unfolding(crate::specs::Input::symbol, crate::specs::Input::start, crate::specs::Input::here, crate::specs::Input::behind))]
-fn fetch(lexer: &mut Lexer<'_>) -> (Symbol, usize, Place)
-    ensures symbol { result.0 ≡ spec.symbol lexer.old }
-    ensures from { result.1 ≡ spec.start lexer.old }
-    ensures place { result.2 ≡ spec.here lexer.old }
-    ensures text { lexer.new.text ≡ lexer.old.text }
-    ensures behind { lexer.new.at ≡ spec.behind lexer.old }
+// What stands next in a text that was read up to byte `at`, and from and up to which byte it stands.
+fn fetch(text: &[u8], at: usize) -> (Symbol, usize, usize)
+    requires { at ≤ length text.now }
+    ensures symbol { result.0 ≡ spec.symbol (record { text = text.now; at = at }) }
+    ensures from { result.1 ≡ spec.start (record { text = text.now; at = at }) }
+    ensures to { result.2 ≡ spec.behind (record { text = text.now; at = at }) }
+    ensures within { result.2 ≤ length text.now }
 {
-    match lexer.next() {
-        Ok(None) => (Symbol::End, lexer.at(), lexer.place()),
-        Ok(Some(token)) => {
-            let from = lexer.at() - token.text.len();
-            (symbol_of(token.kind, token.text), from, token.place)
-        }
-        Err(BadToken(place)) => (Symbol::Bad, lexer.at(), place),
+    let (blank, rest) = ahead(text, at);
+    if rest.is_empty() {
+        return (Symbol::End, text.len(), text.len());
+    }
+    let from = at + blank.len();
+    match token_at(rest) {
+        None => (Symbol::Bad, at, at),
+        Some((kind, length)) => (symbol_of(kind, &rest[..length]), from, from + length),
     }
 }
 
@@ -60,15 +60,15 @@ impl<'a> Tokens<'a> {
         requires { length lexer.text < 2 ^ 32 }
         ensures { result ≡ lexer.entry }
     {
-        let mut lexer = lexer;
+        let text = lexer.text();
         let at = lexer.at();
-        let (symbol, from, place) = fetch(&mut lexer);
+        let (symbol, from, to) = fetch(text, at);
         Tokens {
-            lexer,
+            text,
             at,
             symbol,
             from,
-            place,
+            to,
         }
     }
 
@@ -90,7 +90,7 @@ impl<'a> Tokens<'a> {
     pub fn left(&self) -> usize
         ensures { result ≡ spec.left self.now }
     {
-        self.lexer.len().saturating_sub(self.at) + 1
+        self.text.len().saturating_sub(self.at) + 1
     }
 
     /// Takes the next token, whatever it is.
@@ -101,14 +101,23 @@ impl<'a> Tokens<'a> {
     {
         let piece = Piece {
             from: self.from,
-            to: self.lexer.at(),
+            to: self.to,
         };
         self.at = piece.to;
-        let (symbol, from, place) = fetch(&mut self.lexer);
+        let (symbol, from, to) = fetch(self.text, piece.to);
         self.symbol = symbol;
         self.from = from;
-        self.place = place;
+        self.to = to;
         piece
+    }
+
+    // The place of what stands next.
+    fn place(&self) -> Place
+        ensures { result ≡ spec.here self.now }
+    {
+        let (blank, _) = ahead(self.text, self.at);
+        let before = &self.text[..self.at + blank.len()];
+        after_bytes(Place { line: 1, column: 1 }, before)
     }
 
     /// Why no rule goes on with what stands next.
@@ -117,9 +126,9 @@ impl<'a> Tokens<'a> {
         ensures { result ≡ Stop.Refused (spec.refusal self.now) }
     {
         let refusal = match self.symbol {
-            Symbol::Bad => Refusal::BadToken(self.place),
-            Symbol::TooLarge => Refusal::NumberTooLarge(self.place),
-            _ => Refusal::BadSyntax(self.place),
+            Symbol::Bad => Refusal::BadToken(self.place()),
+            Symbol::TooLarge => Refusal::NumberTooLarge(self.place()),
+            _ => Refusal::BadSyntax(self.place()),
         };
         Stop::Refused(refusal)
     }
@@ -164,7 +173,7 @@ impl<'a> Tokens<'a> {
         ensures some { OnOk result (0 < nests) }
     {
         if nests == 0 {
-            Err(Stop::Refused(Refusal::TooDeep(self.place)))
+            Err(Stop::Refused(Refusal::TooDeep(self.place())))
         } else {
             Ok(())
         }
@@ -177,7 +186,7 @@ impl<'a> Tokens<'a> {
         ensures some { OnOk result (0 < loops) }
     {
         if loops == 0 {
-            Err(Stop::Refused(Refusal::TooDeep(self.place)))
+            Err(Stop::Refused(Refusal::TooDeep(self.place())))
         } else {
             Ok(())
         }
@@ -193,9 +202,9 @@ impl<'a> Tokens<'a> {
         }
         let piece = Piece {
             from: self.from,
-            to: self.lexer.at(),
+            to: self.to,
         };
-        self.lexer.bytes(name) == self.lexer.bytes(piece)
+        piece_bytes(self.text, name) == piece_bytes(self.text, piece)
     }
 
     /// Takes a name, which has to be the one that stands at this piece.

@@ -1,6 +1,6 @@
 //! Measures what stands at the front of a text: a token, or what separates tokens.
 
-ghost use Rattle.std.specs.Prelude.{◌≡◌, ◌<◌, ◌≤◌, ◌+◌, ◌==◌, not, IfSome, length, slice_index};
+ghost use Rattle.std.specs.Prelude.{◌≡◌, ◌<◌, ◌≤◌, ◌+◌, ◌==◌, not, IfSome, length, slice_index, codes};
 ghost use Rattle.std.specs.Char.{is_ascii_digit};
 ghost use Rattle.std.specs.List.{list_all, prefix_len};
 ghost use Rattle.suite_base.specs.Bytes as bytes;
@@ -156,14 +156,32 @@ fn number_kind(text: &[u8]) -> TokenKind
 fn is_pair(a: u8, b: u8) -> bool
     ensures { result ≡ spec.is_pair a b }
 {
-    (b == b'=' && b"+-*/%<>=!".contains(&a)) || (b == a && b"+-&|".contains(&a))
+    match b {
+        b'=' => begins_pair(a),
+        b'+' | b'-' | b'&' | b'|' => a == b,
+        _ => false,
+    }
+}
+
+// Whether a byte makes a sign with a `=` behind it.
+fn begins_pair(a: u8) -> bool
+    ensures { result ≡ spec.is_one_of a (codes "+-*/%<>=!") }
+{
+    match a {
+        b'+' | b'-' | b'*' | b'/' | b'%' | b'<' | b'>' | b'=' | b'!' => true,
+        _ => false,
+    }
 }
 
 // Whether a byte is a sign by itself.
 fn is_single(b: u8) -> bool
     ensures { result ≡ spec.is_single b }
 {
-    b"()[]{};,?:=+-*/%<>!".contains(&b)
+    match b {
+        b'(' | b')' | b'[' | b']' | b'{' | b'}' | b';' | b',' | b'?' | b':' => true,
+        b'=' | b'+' | b'-' | b'*' | b'/' | b'%' | b'<' | b'>' | b'!' => true,
+        _ => false,
+    }
 }
 
 // How many bytes at the front are a sign, 0 where none begins.

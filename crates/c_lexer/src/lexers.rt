@@ -3,11 +3,9 @@
 ghost use Rattle.std.specs.Prelude.{◌≡◌, ◌<◌, ◌≤◌, ◌+◌, ◌-◌, ◌^◌, length, take, drop, IfOk, IfNone, OnErr, Ok, None};
 ghost use Rattle.suite_base.specs.Places.{place_at};
 ghost use Rattle.c_lexer.specs.Tokens.{gap};
-ghost use Rattle.c_lexer.specs.Pieces.{bytes_of};
 ghost use Rattle.c_lexer.specs.Readings as spec;
 
 use crate::cuts::{gap, token_at};
-use crate::pieces::{Piece, piece_bytes};
 use crate::regions::Span;
 use crate::tokens::{BadToken, Token};
 use std::marker::Model;
@@ -59,19 +57,12 @@ impl<'a> Lexer<'a> {
         self.at
     }
 
-    /// The number of bytes from the text's first up to the span's end.
-    pub fn len(&self) -> usize
-        ensures value { result ≡ length self.now.text }
-        ensures read { self.now.at ≤ result }
+    // The bytes from the text's first up to the span's end.
+    pub(crate) fn text(&self) -> &'a [u8]
+        ensures text { result.now ≡ self.now.text }
+        ensures short { length result.now < 2 ^ 32 - 1 }
     {
-        self.text.len()
-    }
-
-    /// The bytes of a piece of the text, as far as it has them.
-    pub fn bytes(&self, piece: Piece) -> &'a [u8]
-        ensures { result.now ≡ bytes_of self.now.text piece }
-    {
-        piece_bytes(self.text, piece)
+        self.text
     }
 
     /// The place where reading goes on: behind the last token, or the end where none is left.
@@ -107,8 +98,8 @@ impl<'a> Lexer<'a> {
     }
 }
 
-// What separates byte `at` from the next token, and what follows it.
-fn ahead(text: &[u8], at: usize) -> (&[u8], &[u8])
+/// What separates byte `at` from the next token, and what follows it.
+pub fn ahead(text: &[u8], at: usize) -> (&[u8], &[u8])
     requires { at ≤ length text.now }
     ensures gap { length result.0.now ≡ gap (drop at text.now) }
     ensures blank { result.0.now ≡ take (length result.0.now) (drop at text.now) }

@@ -1,78 +1,52 @@
-use Rattle.std.proofs.Common.{◌-◌, ◌∙◌, length, ap, sym}
-use Rattle.suite_base.specs.Places.{place_at}
-use Rattle.c_lexer.specs.Readings.{Reading}
-use Rattle.c_lexer.specs.Symbols.{symbol_of}
-use Rattle.c_lexer.specs.Input.{symbol, start, here, behind, symbol_from, start_from, here_from, behind_from}
+use Rattle.std.proofs.Common.{arith}
+use Rattle.c_lexer.proofs.ReadingLemmas.{Ahead, none_left, some_left}
+use Rattle.c_lexer.proofs.NextTokens.{nothing_left, no_token, a_token}
 use Rattle.c_lexer.proofs.cursors.fetch.Goals as goal
 
-pub returns-in-Ok-None-clause-symbol : goal.returns-in-Ok-None-clause-symbol
-unfolding symbol
-returns-in-Ok-None-clause-symbol c =
-    let h = rw c.in-Ok-None.field-0-is at c.in-Ok-None.ensures.answer in
-    sym (ap (symbol_from c.args.lexer.now.text) h.2)
+pub returns-then-is_empty-clause-symbol : goal.returns-then-is_empty-clause-symbol
+returns-then-is_empty-clause-symbol c =
+    let h : Ahead c.args.text.now c.args.at c.ahead.result.0.now c.ahead.result.1.now = record { gap_is = c.ahead.ensures.gap; rest_is = c.ahead.ensures.rest; whole = c.ahead.ensures.whole } in
+    let none = none_left _ _ c.is_empty.ensures c.if-is_empty.true in
+    (nothing_left _ _ _ _ h (omega (arith, none))).symbol_is
 
-pub returns-in-Ok-None-clause-from : goal.returns-in-Ok-None-clause-from
-unfolding start
-returns-in-Ok-None-clause-from c =
-    let h = rw c.in-Ok-None.field-0-is at c.in-Ok-None.ensures.answer in
-    c.at.ensures.value ∙ (h.1 ∙ sym (ap (start_from c.args.lexer.now) h.2))
+pub returns-then-is_empty-clause-from : goal.returns-then-is_empty-clause-from
+returns-then-is_empty-clause-from c =
+    let h : Ahead c.args.text.now c.args.at c.ahead.result.0.now c.ahead.result.1.now = record { gap_is = c.ahead.ensures.gap; rest_is = c.ahead.ensures.rest; whole = c.ahead.ensures.whole } in
+    let none = none_left _ _ c.is_empty.ensures c.if-is_empty.true in
+    (nothing_left _ _ _ _ h (omega (arith, none))).from_is
 
-pub returns-in-Ok-None-clause-place : goal.returns-in-Ok-None-clause-place
-unfolding here
-returns-in-Ok-None-clause-place c =
-    let h = rw c.in-Ok-None.field-0-is at c.in-Ok-None.ensures.answer in
-    c.place.ensures ∙ (ap (λ t. place_at t c.next.new.self.at) h.0 ∙ (ap (place_at c.args.lexer.now.text) h.1 ∙ sym (ap (here_from c.args.lexer.now.text) h.2)))
+pub returns-then-is_empty-clause-to : goal.returns-then-is_empty-clause-to
+returns-then-is_empty-clause-to c =
+    let h : Ahead c.args.text.now c.args.at c.ahead.result.0.now c.ahead.result.1.now = record { gap_is = c.ahead.ensures.gap; rest_is = c.ahead.ensures.rest; whole = c.ahead.ensures.whole } in
+    let none = none_left _ _ c.is_empty.ensures c.if-is_empty.true in
+    (nothing_left _ _ _ _ h (omega (arith, none))).to_is
 
-pub returns-in-Ok-None-clause-behind : goal.returns-in-Ok-None-clause-behind
-unfolding behind
-returns-in-Ok-None-clause-behind c =
-    let h = rw c.in-Ok-None.field-0-is at c.in-Ok-None.ensures.answer in
-    h.1 ∙ sym (ap (behind_from c.args.lexer.now) h.2)
+pub returns-in-None-clause-symbol : goal.returns-in-None-clause-symbol
+returns-in-None-clause-symbol c =
+    let h : Ahead c.args.text.now c.args.at c.ahead.result.0.now c.ahead.result.1.now = record { gap_is = c.ahead.ensures.gap; rest_is = c.ahead.ensures.rest; whole = c.ahead.ensures.whole } in
+    (no_token _ _ _ _ h (some_left _ _ c.is_empty.ensures c.if-is_empty.false) c.in-None.ensures.value).symbol_is
 
-pub returns-in-Ok-Some-clause-symbol : goal.returns-in-Ok-Some-clause-symbol
-unfolding symbol
-returns-in-Ok-Some-clause-symbol c =
-    let h = rw c.in-Ok-Some.field-0-is at c.in-Ok-Some.ensures.answer in
-    c.symbol_of.ensures ∙ (ap (symbol_of c.in-Ok-Some.token.kind) h.2.bytes ∙ sym (ap (symbol_from c.args.lexer.now.text) h.1))
+pub returns-in-None-clause-from : goal.returns-in-None-clause-from
+returns-in-None-clause-from c =
+    let h : Ahead c.args.text.now c.args.at c.ahead.result.0.now c.ahead.result.1.now = record { gap_is = c.ahead.ensures.gap; rest_is = c.ahead.ensures.rest; whole = c.ahead.ensures.whole } in
+    (no_token _ _ _ _ h (some_left _ _ c.is_empty.ensures c.if-is_empty.false) c.in-None.ensures.value).from_is
 
-pub returns-in-Ok-Some-clause-from : goal.returns-in-Ok-Some-clause-from
-unfolding start
-returns-in-Ok-Some-clause-from c =
-    let h = rw c.in-Ok-Some.field-0-is at c.in-Ok-Some.ensures.answer in
-    ap (λ n. n - length c.in-Ok-Some.token.text.now) c.at-in-Ok-Some.ensures.value ∙ sym (ap (start_from c.args.lexer.now) h.1)
+pub returns-in-None-clause-to : goal.returns-in-None-clause-to
+returns-in-None-clause-to c =
+    let h : Ahead c.args.text.now c.args.at c.ahead.result.0.now c.ahead.result.1.now = record { gap_is = c.ahead.ensures.gap; rest_is = c.ahead.ensures.rest; whole = c.ahead.ensures.whole } in
+    (no_token _ _ _ _ h (some_left _ _ c.is_empty.ensures c.if-is_empty.false) c.in-None.ensures.value).to_is
 
-pub returns-in-Ok-Some-clause-place : goal.returns-in-Ok-Some-clause-place
-unfolding here
-returns-in-Ok-Some-clause-place c =
-    let h = rw c.in-Ok-Some.field-0-is at c.in-Ok-Some.ensures.answer in
-    h.2.placed ∙ sym (ap (here_from c.args.lexer.now.text) h.1)
+pub returns-in-Some-clause-symbol : goal.returns-in-Some-clause-symbol
+returns-in-Some-clause-symbol c =
+    let h : Ahead c.args.text.now c.args.at c.ahead.result.0.now c.ahead.result.1.now = record { gap_is = c.ahead.ensures.gap; rest_is = c.ahead.ensures.rest; whole = c.ahead.ensures.whole } in
+    (a_token _ _ _ _ _ _ _ h (some_left _ _ c.is_empty.ensures c.if-is_empty.false) c.in-Some.ensures.value c.symbol_of.ensures).symbol_is
 
-pub returns-in-Ok-Some-clause-behind : goal.returns-in-Ok-Some-clause-behind
-unfolding behind
-returns-in-Ok-Some-clause-behind c =
-    let h = rw c.in-Ok-Some.field-0-is at c.in-Ok-Some.ensures.answer in
-    sym (ap (behind_from c.args.lexer.now) h.1)
+pub returns-in-Some-clause-from : goal.returns-in-Some-clause-from
+returns-in-Some-clause-from c =
+    let h : Ahead c.args.text.now c.args.at c.ahead.result.0.now c.ahead.result.1.now = record { gap_is = c.ahead.ensures.gap; rest_is = c.ahead.ensures.rest; whole = c.ahead.ensures.whole } in
+    (a_token _ _ _ _ _ _ _ h (some_left _ _ c.is_empty.ensures c.if-is_empty.false) c.in-Some.ensures.value c.symbol_of.ensures).from_is
 
-pub returns-in-Err-clause-symbol : goal.returns-in-Err-clause-symbol
-unfolding symbol
-returns-in-Err-clause-symbol c =
-    let h = c.in-Err.ensures.answer in
-    sym (ap (symbol_from c.args.lexer.now.text) h.1)
-
-pub returns-in-Err-clause-from : goal.returns-in-Err-clause-from
-unfolding start
-returns-in-Err-clause-from c =
-    let h = c.in-Err.ensures.answer in
-    c.at-in-Err.ensures.value ∙ (ap (λ (r : Reading). r.at) h.0 ∙ sym (ap (start_from c.args.lexer.now) h.1))
-
-pub returns-in-Err-clause-place : goal.returns-in-Err-clause-place
-unfolding here
-returns-in-Err-clause-place c =
-    let h = c.in-Err.ensures.answer in
-    h.2 ∙ sym (ap (here_from c.args.lexer.now.text) h.1)
-
-pub returns-in-Err-clause-behind : goal.returns-in-Err-clause-behind
-unfolding behind
-returns-in-Err-clause-behind c =
-    let h = c.in-Err.ensures.answer in
-    ap (λ (r : Reading). r.at) h.0 ∙ sym (ap (behind_from c.args.lexer.now) h.1)
+pub returns-in-Some-clause-to : goal.returns-in-Some-clause-to
+returns-in-Some-clause-to c =
+    let h : Ahead c.args.text.now c.args.at c.ahead.result.0.now c.ahead.result.1.now = record { gap_is = c.ahead.ensures.gap; rest_is = c.ahead.ensures.rest; whole = c.ahead.ensures.whole } in
+    (a_token _ _ _ _ _ _ _ h (some_left _ _ c.is_empty.ensures c.if-is_empty.false) c.in-Some.ensures.value c.symbol_of.ensures).to_is
