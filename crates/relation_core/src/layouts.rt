@@ -19,10 +19,18 @@ pub fn print_part(text: &mut Text, part: &Part) -> Result<(), NoMemory>
     ensures err { OnErr result (text.new ≡ text.old) }
 {
     let mut lines = Text::new(part.allocator());
-    push_header(&mut lines, part.shape(), part.row_count())?;
-    lines.push(b'\n')?;
-    push_rows(&mut lines, part.rows())?;
+    append_part(&mut lines, part)?;
     text.push_bytes(lines.bytes())
+}
+
+/// As `print_part`, without a text of its own in between: on want of memory some of it may have been
+/// appended.
+pub fn append_part(text: &mut Text, part: &Part) -> Result<(), NoMemory>
+    ensures { OnOk result (text.new ≡ text.old ++ part_layout part.now) }
+{
+    push_header(text, part.shape(), part.row_count())?;
+    text.push(b'\n')?;
+    push_rows(text, part.rows())
 }
 
 /// Appends a part's header without its newline: the numbers of rows, columns, outputs, inputs, locals

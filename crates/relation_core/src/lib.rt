@@ -10,7 +10,7 @@ mod relations;
 mod row_lists;
 mod shapes;
 
-pub use layouts::{print_header, print_part, print_row};
+pub use layouts::{append_part, print_header, print_part, print_row};
 pub use part_rows::{PartRow, RowKind};
 pub use parts::Part;
 pub use relations::Relation;

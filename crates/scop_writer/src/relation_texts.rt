@@ -7,7 +7,7 @@ ghost use Rattle.scop_core.specs.Layouts.{relation_layout, parts_line, access_wo
 ghost use Rattle.scop_core.specs.SolvedRows.{schedule_part, HasRelation, HasAccessRelation};
 
 use crate::line_texts::{print_line, print_number_line};
-use relation_core::{Relation, print_part};
+use relation_core::{Relation, append_part};
 use scop_core::{Access, AccessKind, Schedule};
 use std::alloc::Global;
 use suite_base::{NoMemory, Text};
@@ -27,7 +27,7 @@ fn print_parts(text: &mut Text, relation: &Relation) -> Result<(), NoMemory>
     ensures { OnOk result (text.new ≡ text.old ++ flat_map part_layout relation.now) }
 {
     for part in relation.parts() {
-        print_part(text, part)?;
+        append_part(text, part)?;
     }
     Ok(())
 }

@@ -9,7 +9,7 @@ ghost use Rattle.scop_core.specs.Validity.{IsValid};
 
 use crate::line_texts::{print_line, print_names, print_number_line};
 use crate::statement_texts::{print_extensions, print_statement};
-use relation_core::{Part, print_part};
+use relation_core::{Part, append_part};
 use row_core::Coeff;
 use scop_core::Scop;
 use std::alloc::Global;
@@ -20,7 +20,7 @@ fn print_context(text: &mut Text, context: &Part) -> Result<(), NoMemory>
     ensures { OnOk result (text.new ≡ text.old ++ relation_layout (codes "CONTEXT") (context.now ∷ [])) }
 {
     print_line(text, b"CONTEXT")?;
-    print_part(text, context)
+    append_part(text, context)
 }
 
 // Appends the names of the parameters.
