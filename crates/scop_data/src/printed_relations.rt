@@ -25,13 +25,13 @@ fn push_value_row(
     ensures rows { OnOk result (part.new.rows ≡ part.old.rows ++ value_row part.old.shape output value.now ∷ []) }
 {
     let shape = part.shape();
-    let mut row = DenseRow::new(alloc);
+    let mut row = DenseRow::with_capacity(alloc, part.width())?;
     push_unit(&mut row, shape.outputs, output, Coeff::ONE.negated())?;
     row.push_all(value.iterators())?;
     row.push_all(value.floors())?;
     row.push_all(value.parameters())?;
     row.push(value.constant())?;
-    part.push_row(RowKind::Equal, row.as_slice())
+    part.push_entries(RowKind::Equal, row)
 }
 
 // Appends the row `-output + constant = 0` of the output at place `output`.
@@ -46,13 +46,13 @@ fn push_constant_row(
     ensures rows { OnOk result (part.new.rows ≡ part.old.rows ++ constant_row part.old.shape output constant ∷ []) }
 {
     let shape = part.shape();
-    let mut row = DenseRow::new(alloc);
+    let mut row = DenseRow::with_capacity(alloc, part.width())?;
     push_unit(&mut row, shape.outputs, output, Coeff::ONE.negated())?;
     row.push_zeros(shape.inputs)?;
     row.push_zeros(shape.locals)?;
     row.push_zeros(shape.parameters)?;
     row.push(constant)?;
-    part.push_row(RowKind::Equal, row.as_slice())
+    part.push_entries(RowKind::Equal, row)
 }
 
 // Appends the row `value - size * local >= 0` of the local at place `local`.
@@ -65,13 +65,13 @@ fn push_low_row(alloc: Global, part: &mut Part, local: usize, floor: &Floor) -> 
 {
     let shape = part.shape();
     let value = &floor.value;
-    let mut row = DenseRow::new(alloc);
+    let mut row = DenseRow::with_capacity(alloc, part.width())?;
     row.push_zeros(shape.outputs)?;
     row.push_all(value.iterators())?;
     push_raised(&mut row, value.floors(), local, floor.size.negated())?;
     row.push_all(value.parameters())?;
     row.push(value.constant())?;
-    part.push_row(RowKind::AtLeast, row.as_slice())
+    part.push_entries(RowKind::AtLeast, row)
 }
 
 // Appends the row `-value + size * local + size - 1 >= 0` of the local at place `local`.
@@ -89,13 +89,13 @@ fn push_high_row(
 {
     let shape = part.shape();
     let value = &floor.value;
-    let mut row = DenseRow::new(alloc);
+    let mut row = DenseRow::with_capacity(alloc, part.width())?;
     row.push_zeros(shape.outputs)?;
     push_negated(&mut row, value.iterators())?;
     push_raised_negated(&mut row, value.floors(), local, floor.size.negated())?;
     push_negated(&mut row, value.parameters())?;
     row.push(remainder_constant(value.constant(), floor.size))?;
-    part.push_row(RowKind::AtLeast, row.as_slice())
+    part.push_entries(RowKind::AtLeast, row)
 }
 
 // `-constant + size - 1`, which is in range.
