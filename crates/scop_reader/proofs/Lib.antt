@@ -21,6 +21,7 @@ pub mod GrammarProper
 mod Checks
 pub mod FewerLines
 pub mod GlobalTurns
+pub mod SpecialTwice
 pub mod OpenLines
 pub mod ReadScops
 pub mod GrammarPrinted

@@ -1,6 +1,7 @@
 -- Reading a text line by line: each step takes lines from the front, or stops with the first refusal.
 use Rattle.std.specs.Prelude.{◌≡◌, ℤ, pos, ℕ, ◌+◌, Bool, true, List, [], ◌∷◌, length, Option, Some, None, Result, Ok, Err, if◌then◌else◌, ◌==◌, int_le}
 use Rattle.std.specs.Str.{bytes_eq}
+use Rattle.suite_base.specs.Results as results
 use Rattle.suite_base.specs.declared.places.Place.{Place}
 use Rattle.suite_base.specs.declared.refusals.Fail.{Fail}
 use Rattle.suite_base.specs.declared.refusals.Fail.TheVariants as fail
@@ -20,8 +21,7 @@ abbrev pub Reader : Type 0 → Type 0
 Reader A = Rest → Outcome A
 
 abbrev pub and_then : {A B : Type 0} → Outcome A → (A → Reader B) → Outcome B
-and_then (Ok p) f = f p.0 p.1
-and_then (Err e) f = Err e
+and_then o f = results.and_then o (λ p. f p.0 p.1)
 
 infixl 10 ◌>>=◌
 abbrev pub ◌>>=◌ : {A B : Type 0} → Reader A → (A → Reader B) → Reader B
