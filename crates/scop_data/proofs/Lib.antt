@@ -19,3 +19,4 @@ pub mod MappedRuns
 pub mod AlikeRuns
 mod LayoutChecks
 mod LevelChecks
+pub mod LineWords

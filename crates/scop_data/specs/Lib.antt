@@ -2,6 +2,7 @@ pub mod AffineSums
 pub mod DenseBetas
 pub mod Layouts
 pub mod LevelOrder
+pub mod LineWords
 pub mod MappedRuns
 pub mod Meaning
 pub mod Memory
