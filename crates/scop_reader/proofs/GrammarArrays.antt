@@ -13,14 +13,16 @@ use Rattle.suite_base.specs.declared.refusals.Which.TheVariants as which
 use Rattle.suite_base.specs.Numbers.{number_read}
 use Rattle.suite_base.specs.declared.numbers.NumberRead.TheVariants.{Value}
 use Rattle.suite_base.proofs.LineCuts.{bool_tells}
+use Rattle.scop_data.specs.LineWords.{is_value}
+use Rattle.scop_data.proofs.LineWords.{value_is, is_its_value}
 use Rattle.scop_core.specs.Printable.{is_name, are_names, end_line, arrays_name, has_no_array, are_arrays}
 use Rattle.scop_reader.specs.Lines.{Rest, Line, Word, words_of, word_bytes}
 use Rattle.scop_reader.specs.Reading.{said_line, closing, number_in, at_least}
 use Rattle.scop_reader.specs.Rules
 use Rattle.scop_reader.specs.Rules.{count_line, kept_from, array_of, array_line, arrays_from}
-use Rattle.scop_reader.specs.Documents.{Said, Closing, count, said_array, is_entry, is_value, behind, behind_all}
+use Rattle.scop_reader.specs.Documents.{Said, Closing, count, said_array, is_entry, behind, behind_all}
 use Rattle.scop_reader.proofs.GrammarLines.{then_ok, check_then, result_then, read_ok, same_value, same_left, behind_line, line_behind, line_keeps, are_lines, all_keeps, split, split_one, join, join_one, one_alone, alone_one}
-use Rattle.scop_reader.proofs.GrammarWords.{closing_reads, closing_said, count_line_reads, count_line_said, number_in_ok, value_is, is_its_value, line_words_named, same_ok, not_ok}
+use Rattle.scop_reader.proofs.GrammarWords.{closing_reads, closing_said, count_line_reads, count_line_said, number_in_ok, line_words_named, same_ok, not_ok}
 use Rattle.scop_reader.proofs.GrammarParts.{within_then, push_list}
 
 -- ---- one array

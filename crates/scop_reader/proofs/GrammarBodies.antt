@@ -8,6 +8,7 @@ use Rattle.suite_base.specs.declared.refusals.Refusal.TheVariants.{BadScop}
 use Rattle.suite_base.specs.Words.{content, spaced}
 use Rattle.suite_base.proofs.LineCuts.{bool_tells}
 use Rattle.scop_data.specs.declared.statements.Body.{Body}
+use Rattle.scop_data.proofs.LineWords.{same_words}
 use Rattle.scop_core.specs.Printable.{are_names, end_line, body_name, is_body_line, is_body}
 use Rattle.scop_reader.specs.Lines.{Rest, Line, words_of, word_bytes, behind_silent, is_silent}
 use Rattle.scop_reader.specs.Reading.{Reader, and_then, said_line, next_said, first_line, word_line, closing}
@@ -15,7 +16,7 @@ use Rattle.scop_reader.specs.Rules
 use Rattle.scop_reader.specs.Rules.{count_line, kept_from, kept_lines, names, no_end, iterator_names, body_text, array_of, array_line, arrays_from}
 use Rattle.scop_reader.specs.Documents.{Said, Literal, Words, Closing, count, said_names, behind, behind_all}
 use Rattle.scop_reader.proofs.GrammarLines.{then_ok, check_then, read_ok, same_value, same_left, behind_line, line_behind, line_keeps, are_lines, all_keeps, split, split_one, join, join_one, one_alone, alone_one}
-use Rattle.scop_reader.proofs.GrammarWords.{closing_reads, closing_said, word_line_reads, WordLine, word_line_said, read_words_named, same_words, count_line_reads, count_line_said}
+use Rattle.scop_reader.proofs.GrammarWords.{closing_reads, closing_said, word_line_reads, WordLine, word_line_said, read_words_named, count_line_reads, count_line_said}
 use Rattle.scop_reader.proofs.GrammarRelations.{next_is}
 use Rattle.scop_reader.proofs.GrammarText.{spaced_differs, content_differs, body_line_is}
 

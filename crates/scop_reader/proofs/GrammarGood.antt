@@ -15,6 +15,7 @@ use Rattle.relation_core.specs.declared.part_rows.PartRow.{PartRow}
 use Rattle.relation_core.specs.Systems.{System, columns, row_at}
 use Rattle.scop_data.specs.declared.accesses.AccessKind.{AccessKind}
 use Rattle.scop_data.specs.declared.accesses.AccessKind.TheVariants as kind
+use Rattle.scop_data.specs.LineWords.{kind_number}
 use Rattle.scop_core.specs.declared.limits.PartCount.TheVariants.{RowCount}
 use Rattle.scop_data.specs.declared.statements.Body.{Body}
 use Rattle.scop_data.specs.declared.statements.Extension.{Extension}
@@ -23,7 +24,7 @@ use Rattle.scop_data.specs.declared.raw_pieces.ScopPieces.{ScopPieces}
 use Rattle.scop_core.specs.Layouts.{access_word}
 use Rattle.scop_core.specs.Assembly.{some_above, accesses_above, accesses_many, array_count, first_limit, statement_limit, the_part, iterators_of, HasShapes}
 use Rattle.scop_core.specs.Printable.{has_no, is_plain, is_name, are_names, is_body_line, is_body, end_line, body_name, arrays_name, is_extension_name, are_kept_lines, is_kept, are_kept, has_no_array, are_arrays, IsPrintableStatement, IsPrintable}
-use Rattle.scop_reader.specs.Documents.{Said, Literal, Closing, Raw, End, Document, count, kind_number, said_row, said_part, said_count, said_relation, said_access, said_names, said_body, said_array, said_arrays, open_line, said_kept, said_item, said_statement, said_parameters, said_context, said_document}
+use Rattle.scop_reader.specs.Documents.{Said, Literal, Closing, Raw, End, Document, count, said_row, said_part, said_count, said_relation, said_access, said_names, said_body, said_array, said_arrays, open_line, said_kept, said_item, said_statement, said_parameters, said_context, said_document}
 use Rattle.scop_core.specs.Held.{IsFormed, StatementIsHeld, IsHeld}
 use Rattle.scop_reader.proofs.GrammarPrinted.{IsGood, IsTrimmed, AreSmall, literal_good, closing_good, end_good, raw_good, words_good, numbers_good, entry_good, open_trimmed, end_trimmed}
 use Rattle.scop_reader.proofs.GrammarSpelled.{parts_of, access_text, keep, items_of, statement_text, document_of}

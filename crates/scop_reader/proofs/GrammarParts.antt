@@ -15,15 +15,17 @@ use Rattle.relation_core.specs.declared.part_rows.RowKind.TheVariants.{Equal, At
 use Rattle.relation_core.specs.declared.part_rows.PartRow.{PartRow}
 use Rattle.relation_core.specs.declared.shapes.Shape.{Shape}
 use Rattle.relation_core.specs.Systems.{System, columns, width}
+use Rattle.scop_data.specs.LineWords.{header_numbers, kind_number, are_numbers, is_value}
+use Rattle.scop_data.proofs.LineWords.{value_is, is_its_value}
 use Rattle.scop_reader.specs.declared.roles.Role.{Role}
 use Rattle.scop_reader.specs.Lines.{Rest, Line, Word, words_of, word_bytes}
 use Rattle.scop_reader.specs.Reading.{Reader, and_then, said_line, number_in, numbers_in, is_count, is_any}
 use Rattle.scop_reader.specs.Rules
 use Rattle.scop_reader.specs.Rules.{Header, counts_line, header_of, header_limit, header_line, is_shaped, suits, number_at, is_kind, kind_of, row_numbers, row_of, row_line, rows_from, role_behind, parts_from, is_counted, part_count, counted, within}
-use Rattle.scop_reader.specs.Documents.{Numbers, naturals, header_numbers, kind_number, said_row, said_part, are_numbers, is_value, behind, behind_all}
+use Rattle.scop_reader.specs.Documents.{Numbers, said_row, said_part, behind, behind_all}
 use Rattle.scop_reader.specs.Texts.{are_wide}
 use Rattle.scop_reader.proofs.GrammarLines.{then_ok, check_then, unless_then, result_then, read_ok, same_value, same_left, behind_line, line_behind, split_one, join_one}
-use Rattle.scop_reader.proofs.GrammarWords.{number_line_reads, number_line_said, numbers_read, numbers_said, length-are_numbers, length-word_bytes, all_pass, value_is, is_its_value, number_in_ok, with_number_ok, at_least_passes}
+use Rattle.scop_reader.proofs.GrammarWords.{number_line_reads, number_line_said, numbers_read, numbers_said, length-are_numbers, length-word_bytes, all_pass, number_in_ok, with_number_ok, at_least_passes}
 
 -- ---- limits of counts
 
@@ -39,6 +41,9 @@ within_then most n which k rest f b now e =
 
 abbrev pub header_is : System → Header
 header_is p = record { rows = length p.rows; columns = columns p.shape + 2; shape = p.shape }
+
+abbrev naturals : List ℕ → List ℤ
+naturals ns = map pos ns
 
 abbrev pub numbers_of : Header → List ℤ
 numbers_of h = naturals (h.rows ∷ (h.columns ∷ (h.shape.outputs ∷ (h.shape.inputs ∷ (h.shape.locals ∷ (h.shape.parameters ∷ []))))))

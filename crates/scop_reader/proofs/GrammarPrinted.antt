@@ -15,11 +15,13 @@ use Rattle.suite_base.proofs.LineCuts.{bool_tells}
 use Rattle.suite_base.proofs.WordCuts.{words-spaced}
 use Rattle.suite_base.proofs.NumberLaws.{signed_decimal_word, signed_decimal_reads, number_is_word}
 use Rattle.suite_base.specs.Bytes.{begins_name, is_name_byte}
+use Rattle.scop_data.specs.LineWords.{are_same, are_numbers, is_value}
+use Rattle.scop_data.proofs.LineWords.{words_same, is_its_value}
 use Rattle.scop_core.specs.Printable.{has_no, is_plain, is_name, are_names, are_name_bytes, is_extension_name, end_line}
 use Rattle.scop_reader.specs.Lines.{Rest, is_empty, is_silent, words_of, word_bytes}
-use Rattle.scop_reader.specs.Documents.{Said, Literal, Words, Numbers, Entry, Closing, Raw, End, says, is_raw, are_same, are_numbers, is_value, is_entry, behind, behind_all, open_line}
+use Rattle.scop_reader.specs.Documents.{Said, Literal, Words, Numbers, Entry, Closing, Raw, End, says, is_raw, is_entry, behind, behind_all, open_line}
 use Rattle.scop_reader.proofs.GrammarLines.{false_of, other_way, join_one}
-use Rattle.scop_reader.proofs.GrammarWords.{words_same, plain_more, is_its_value}
+use Rattle.scop_reader.proofs.GrammarWords.{plain_more}
 use Rattle.scop_reader.proofs.GrammarText.{content_words, words-trim}
 
 -- ---- what is printed for a line

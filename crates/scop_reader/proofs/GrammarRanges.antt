@@ -18,16 +18,17 @@ use Rattle.relation_core.specs.Systems.{System, width}
 use Rattle.scop_data.specs.declared.accesses.AccessKind.{AccessKind}
 use Rattle.scop_data.specs.declared.statements.Body.{Body}
 use Rattle.scop_data.specs.declared.raw_pieces.ScopPieces.{ScopPieces}
+use Rattle.scop_data.specs.LineWords.{is_value, are_numbers}
+use Rattle.scop_data.proofs.LineWords.{value_is}
 use Rattle.scop_core.specs.Layouts.{access_word}
 use Rattle.scop_reader.specs.declared.roles.Role.{Role}
 use Rattle.scop_reader.specs.declared.roles.Role.TheVariants.{Context, Domain, Scattering, Access}
 use Rattle.scop_reader.specs.Lines.{Rest, words_of, word_bytes}
 use Rattle.scop_reader.specs.Rules.{suits, role_behind, most_outputs, outputs_of_first, from_open, open_word}
-use Rattle.scop_reader.specs.Documents.{Said, Literal, Words, Numbers, Entry, Closing, Raw, End, is_value, are_numbers, is_entry, behind, behind_all, Item, Special, Kept, Parts, StatementText, Document, count, said_row, said_part, said_count, said_relation, said_access, said_item, said_body, said_array, said_arrays, said_statement, said_parameters, said_context, said_document, first_special, kept_items, access_pieces, statement_pieces, pieces_of}
+use Rattle.scop_reader.specs.Documents.{Said, Literal, Words, Numbers, Entry, Closing, Raw, End, is_entry, behind, behind_all, Item, Special, Kept, Parts, StatementText, Document, count, said_row, said_part, said_count, said_relation, said_access, said_item, said_body, said_array, said_arrays, said_statement, said_parameters, said_context, said_document, first_special, kept_items, access_pieces, statement_pieces, pieces_of}
 use Rattle.scop_core.specs.Held.{IsFormed, StatementIsHeld, IsHeld}
 use Rattle.scop_reader.specs.Texts.{are_wide, IsTextOf, IsTextOfPieces}
 use Rattle.scop_reader.proofs.GrammarLines.{behind_line, split_one, behind_fewer}
-use Rattle.scop_reader.proofs.GrammarWords.{value_is}
 use Rattle.scop_reader.proofs.GrammarPrinted.{AreSmall}
 use Rattle.scop_reader.proofs.GrammarParts.{Fits}
 use Rattle.scop_reader.proofs.GrammarRelations.{AllFit, IsRelation, AreAccesses}

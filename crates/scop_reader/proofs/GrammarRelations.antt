@@ -14,6 +14,7 @@ use Rattle.suite_base.proofs.LineCuts.{bool_tells}
 use Rattle.relation_core.specs.Systems.{System}
 use Rattle.scop_data.specs.declared.accesses.AccessKind.{AccessKind}
 use Rattle.scop_data.specs.declared.accesses.AccessKind.TheVariants as kind
+use Rattle.scop_data.specs.LineWords.{header_numbers}
 use Rattle.scop_core.specs.Layouts.{access_word}
 use Rattle.scop_core.specs.Printable.{has_part}
 use Rattle.scop_reader.specs.declared.roles.Role.{Role}
@@ -22,7 +23,7 @@ use Rattle.scop_reader.specs.Lines.{Rest, Line, words_of, word_bytes, behind_sil
 use Rattle.scop_reader.specs.Reading.{said_line, next_said, first_line, first_of, literal, pure}
 use Rattle.scop_reader.specs.Rules
 use Rattle.scop_reader.specs.Rules.{count_line, role_behind, parts_from, is_counted, part_count, counted, within, one_part, context_counted, access_kind, some_of, kind_line, accesses_from}
-use Rattle.scop_reader.specs.Documents.{Said, Literal, Numbers, Parts, count, header_numbers, said_row, said_part, said_count, said_relation, said_access, access_pieces, behind, behind_all}
+use Rattle.scop_reader.specs.Documents.{Said, Literal, Numbers, Parts, count, said_row, said_part, said_count, said_relation, said_access, access_pieces, behind, behind_all}
 use Rattle.scop_reader.proofs.GrammarLines.{then_ok, read_ok, same_value, same_left, behind_line, line_behind, if_cases, split, split_one, join, join_one, one_alone}
 use Rattle.scop_reader.proofs.GrammarWords.{length-are_numbers, length-word_bytes, count_line_reads, count_line_said, literal_reads, literal_said, check_end}
 use Rattle.scop_reader.proofs.GrammarParts.{within_then, Fits, part_reads, part_said, push_list}

@@ -19,12 +19,13 @@ use Rattle.scop_data.specs.declared.statements.Extension.{Extension}
 use Rattle.scop_data.specs.declared.statements.Statement.{Statement}
 use Rattle.scop_data.specs.declared.raw_pieces.RawStatement.{RawStatement}
 use Rattle.scop_data.specs.declared.raw_pieces.ScopPieces.{ScopPieces}
+use Rattle.scop_data.specs.LineWords.{header_numbers, kind_number}
 use Rattle.scop_core.specs.Layouts.{line, number_line, names_line, parts_line, relation_layout, access_word, access_layout, body_layout, extension_layout, statement_layout, parameters_layout, array_line, arrays_layout, layout}
 use Rattle.scop_core.specs.Printable.{end_line, body_name, arrays_name}
 use Rattle.scop_core.specs.ReadBack.{access_piece, statement_pieces as printed_statement, pieces_of as printed_pieces}
 use Rattle.scop_core.specs.SolvedRows.{schedule_part, access_part}
 use Rattle.scop_core.specs.ScopData.{ScopData}
-use Rattle.scop_reader.specs.Documents.{Said, Literal, Words, Numbers, Closing, Raw, End, Item, Special, Kept, Parts, StatementText, Document, count, header_numbers, kind_number, said_row, said_part, said_count, said_relation, said_access, said_names, said_body, said_array, said_arrays, open_line, said_kept, said_item, said_statement, said_parameters, said_context, said_document, first_special, kept_items, access_pieces, statement_pieces, pieces_of}
+use Rattle.scop_reader.specs.Documents.{Said, Literal, Words, Numbers, Closing, Raw, End, Item, Special, Kept, Parts, StatementText, Document, count, said_row, said_part, said_count, said_relation, said_access, said_names, said_body, said_array, said_arrays, open_line, said_kept, said_item, said_statement, said_parameters, said_context, said_document, first_special, kept_items, access_pieces, statement_pieces, pieces_of}
 use Rattle.scop_reader.proofs.GrammarPrinted.{printed_line, printed_text}
 
 -- ---- the document that is printed of pieces

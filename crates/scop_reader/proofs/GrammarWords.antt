@@ -4,8 +4,7 @@ use Rattle.std.specs.Prelude.{int_le}
 use Rattle.std.specs.Str.{bytes_eq}
 use Rattle.std.proofs.lemmas.Int.{ints}
 use Rattle.std.proofs.lemmas.Bool.{and_parts, and_from}
-use Rattle.std.proofs.lemmas.Bool.Decides.{Decides-int_eq, Decides-eqb}
-use Rattle.std.proofs.lemmas.Slice.Eq.{bytes_eq-Decides}
+use Rattle.std.proofs.lemmas.Bool.Decides.{Decides-eqb}
 use Rattle.suite_base.specs.declared.refusals.Refusal.{Refusal}
 use Rattle.suite_base.specs.declared.refusals.Refusal.TheVariants.{BadScop}
 use Rattle.suite_base.specs.declared.numbers.NumberRead.{NumberRead}
@@ -14,11 +13,13 @@ use Rattle.suite_base.specs.Lines.{trim, is_blank}
 use Rattle.suite_base.specs.Words.{content, begins_word, unbroken, is_word, without_comment}
 use Rattle.suite_base.specs.Numbers.{number_read}
 use Rattle.suite_base.proofs.LineCuts.{bool_tells}
+use Rattle.scop_data.specs.LineWords.{are_numbers, is_value}
+use Rattle.scop_data.proofs.LineWords.{same_words, words_same, value_is, is_its_value}
 use Rattle.scop_core.specs.Printable.{has_no, is_plain, is_name, are_names}
 use Rattle.scop_reader.specs.Lines.{Rest, Line, Word, words_of, words_from, put_word, word_bytes}
 use Rattle.scop_reader.specs.Reading.{check, said_line, literal, closing, word_line, number_in, with_number, numbers_in, at_least}
 use Rattle.scop_reader.specs.Rules.{number_line, count_line, first_number}
-use Rattle.scop_reader.specs.Documents.{Literal, Words, Numbers, Closing, are_same, are_numbers, is_value, behind, count}
+use Rattle.scop_reader.specs.Documents.{Literal, Words, Numbers, Closing, behind, count}
 use Rattle.scop_reader.proofs.GrammarLines.{other_way, if_cases, then_ok, check_then, result_then, read_ok, same_value, same_left, behind_line, line_behind, line_keeps, are_lines}
 
 -- ---- the end of a reader
@@ -56,20 +57,6 @@ closing_said text rest now u e =
     line_behind (Closing text) rest now t.value refl (t.first ∙ ap (λ (r : Rest). read_ok t.value r) c.1) c.0
 
 -- ---- words
-
-pub same_words : (vs ws : List (List ℕ)) → are_same vs ws ≡ true → vs ≡ ws
-same_words [] [] e = refl
-same_words [] (w ∷ ws) e = absurd (cc)
-same_words (v ∷ vs) [] e = absurd (cc)
-same_words (v ∷ vs) (w ∷ ws) e =
-    let both = and_parts (bytes_eq v w) (are_same vs ws) e in
-    let first : v ≡ w = (bytes_eq-Decides v w).0 both.0 in
-    let more : vs ≡ ws = same_words vs ws both.1 in
-    cc
-
-pub words_same : (vs : List (List ℕ)) → are_same vs vs ≡ true
-words_same [] = refl
-words_same (v ∷ vs) = and_from (bytes_eq v v) (are_same vs vs) ((bytes_eq-Decides v v).1 refl) (words_same vs)
 
 pub length-word_bytes : (ws : List Word) → length (word_bytes ws) ≡ length ws
 length-word_bytes [] = refl
@@ -200,14 +187,6 @@ err r = Err r
 
 pub not_ok : {A : Type 0} (r : Refusal) (a : A) → err r ≡ ok a → ⊥
 not_ok r a e = absurd (cc)
-
-pub value_is : (n : ℤ) (r : NumberRead) → is_value n r ≡ true → r ≡ Value n
-value_is n (Value m) e = ap (λ (z : ℤ). Value z) ((Decides-int_eq m n).0 e)
-value_is n TooLarge e = absurd (cc)
-value_is n NotNumber e = absurd (cc)
-
-pub is_its_value : (n : ℤ) (r : NumberRead) → r ≡ Value n → is_value n r ≡ true
-is_its_value n r e = rw e ((Decides-int_eq n n).1 refl)
 
 pub number_in_ok : (line : Line) (allowed : ℤ → Bool) (word : Word) (r : NumberRead) (n : ℤ) → number_in line allowed word r ≡ Ok n → (r ≡ Value n) × (allowed n ≡ true)
 number_in_ok line allowed word (Value m) n e =

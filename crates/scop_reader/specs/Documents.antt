@@ -2,22 +2,18 @@
 -- with the choices that a text has: where a number of parts is written, and how extensions follow one another.
 use Rattle.std.specs.Prelude.{ℤ, pos, ℕ, ◌+◌, Bool, true, false, ◌&&◌, List, [], ◌∷◌, ◌++◌, length, map, Option, Some, None, if◌then◌else◌, codes}
 use Rattle.std.specs.List.{flat_map}
-use Rattle.std.specs.Ordering.{int_eq}
 use Rattle.std.specs.Str.{bytes_eq}
-use Rattle.suite_base.specs.declared.numbers.NumberRead.{NumberRead}
-use Rattle.suite_base.specs.declared.numbers.NumberRead.TheVariants.{Value, TooLarge, NotNumber}
 use Rattle.suite_base.specs.Lines.{trim}
 use Rattle.suite_base.specs.Words.{content}
 use Rattle.suite_base.specs.Numbers.{number_read}
-use Rattle.relation_core.specs.declared.part_rows.RowKind.{RowKind}
-use Rattle.relation_core.specs.declared.part_rows.RowKind.TheVariants.{Equal, AtLeast}
 use Rattle.relation_core.specs.declared.part_rows.PartRow.{PartRow}
-use Rattle.relation_core.specs.Systems.{System, columns}
+use Rattle.relation_core.specs.Systems.{System}
 use Rattle.scop_data.specs.declared.accesses.AccessKind.{AccessKind}
 use Rattle.scop_data.specs.declared.statements.Body.{Body}
 use Rattle.scop_data.specs.declared.statements.Extension.{Extension}
 use Rattle.scop_data.specs.declared.raw_pieces.RawStatement.{RawStatement}
 use Rattle.scop_data.specs.declared.raw_pieces.ScopPieces.{ScopPieces}
+use Rattle.scop_data.specs.LineWords.{are_same, is_value, are_numbers, row_numbers, header_numbers}
 use Rattle.scop_core.specs.Layouts.{access_word}
 use Rattle.scop_core.specs.Printable.{end_line, body_name, arrays_name}
 use Rattle.scop_reader.specs.Lines.{Rest, behind_silent, words_of, word_bytes}
@@ -39,24 +35,6 @@ pub data Said : Type 0 where
   Raw : (text : List ℕ) → Said
   -- exactly this, but for blanks at the ends; no line before it is skipped
   End : (text : List ℕ) → Said
-
-abbrev pub are_same : List (List ℕ) → List (List ℕ) → Bool
-are_same [] [] = true
-are_same [] (w ∷ ws) = false
-are_same (v ∷ vs) [] = false
-are_same (v ∷ vs) (w ∷ ws) = bytes_eq v w && are_same vs ws
-
-abbrev pub is_value : ℤ → NumberRead → Bool
-is_value n (Value m) = int_eq m n
-is_value n TooLarge = false
-is_value n NotNumber = false
-
--- the words are words for these numbers
-abbrev pub are_numbers : List (List ℕ) → List ℤ → Bool
-are_numbers [] [] = true
-are_numbers [] (n ∷ ns) = false
-are_numbers (w ∷ ws) [] = false
-are_numbers (w ∷ ws) (n ∷ ns) = is_value n (number_read w) && are_numbers ws ns
 
 -- a word for this number, and this word
 abbrev pub is_entry : List (List ℕ) → ℤ → List ℕ → Bool
@@ -126,22 +104,11 @@ pub record Document : Type 0 where
 
 -- ---- what the lines of each piece say
 
-abbrev pub naturals : List ℕ → List ℤ
-naturals ns = map pos ns
-
 abbrev pub count : ℕ → Said
 count n = Numbers (pos n ∷ [])
 
--- rows, columns with the kind and the constant, outputs, inputs, locals, parameters
-abbrev pub header_numbers : System → List ℤ
-header_numbers part = naturals (length part.rows ∷ ((columns part.shape + 2) ∷ (part.shape.outputs ∷ (part.shape.inputs ∷ (part.shape.locals ∷ (part.shape.parameters ∷ []))))))
-
-abbrev pub kind_number : RowKind → ℤ
-kind_number Equal = pos 0
-kind_number AtLeast = pos 1
-
 abbrev pub said_row : PartRow → Said
-said_row row = Numbers (kind_number row.kind ∷ row.entries)
+said_row row = Numbers (row_numbers row)
 
 abbrev pub said_part : System → List Said
 said_part part = Numbers (header_numbers part) ∷ map said_row part.rows
