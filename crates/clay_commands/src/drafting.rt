@@ -10,41 +10,19 @@ ghost use Rattle.clay_commands.specs.Drafts.{leaves_from};
 ghost use Rattle.clay_commands.specs.Soundness.{IsSoundLeaf, numbered_leaf, raw_of, original_of};
 
 use crate::leaves::Leaf;
-use crate::vector_steps::copied_vector;
-use beta_tree::Betas;
+use beta_tree::{Betas, copied_vector};
 use row_core::Coeff;
 use scop_core::{Pieces, RawStatement, Scop, Statement};
+use scop_data::copies::beta_vectors;
 use std::alloc::Global;
 use suite_base::{List, NoMemory};
-
-// A copy of coefficients.
-fn copied_coeffs(alloc: Global, coeffs: &[Coeff]) -> Result<List<Coeff>, NoMemory>
-    ensures { IfOk result (λ made. made ≡ coeffs.now) }
-{
-    let mut made = List::new(alloc);
-    for coeff in coeffs {
-        made.push(*coeff)?;
-    }
-    Ok(made)
-}
-
-// The beta vectors of statements.
-fn vectors_in(alloc: Global, statements: &[Statement]) -> Result<List<List<Coeff>>, NoMemory>
-    ensures { IfOk result (λ made. made ≡ betas_in statements.now) }
-{
-    let mut made = List::new(alloc);
-    for statement in statements {
-        made.push(copied_coeffs(alloc, statement.schedule.betas.as_slice())?)?;
-    }
-    Ok(made)
-}
 
 /// The beta vectors of a SCoP, numbered densely.
 pub fn dense_vectors(alloc: Global, scop: &Scop) -> Result<Betas, NoMemory>
     ensures { IfOk result (λ betas. betas ≡ dense_of (betas_in scop.now.statements)) }
 {
     let statements = scop.statements();
-    let vectors = vectors_in(alloc, statements)?;
+    let vectors = beta_vectors(alloc, statements)?;
     Betas::dense(alloc, &vectors)
 }
 

@@ -11,7 +11,7 @@ ghost use Rattle.clay_commands.specs.Steps.{joined, fail_of};
 
 use crate::arguments::{betas_from, clamped};
 use crate::leaves::Leaf;
-use beta_tree::{BetaFail, Betas};
+use beta_tree::{BetaFail, Betas, copied_vector};
 use row_core::Coeff;
 use std::alloc::Global;
 use suite_base::{Fail, List, NoMemory, Refusal};
@@ -26,17 +26,6 @@ pub fn beta_fail(i: u32, fail: BetaFail) -> Fail
         BetaFail::NotALoop => Fail::Refused(Refusal::NotALoop(i)),
         BetaFail::BadArgument => Fail::Refused(Refusal::BadArgument(i)),
     }
-}
-
-/// A copy of the vector of a statement.
-pub fn copied_vector(alloc: Global, vector: &[u32]) -> Result<List<u32>, NoMemory>
-    ensures { IfOk result (λ made. made ≡ vector.now) }
-{
-    let mut made = List::new(alloc);
-    for entry in vector {
-        made.push(*entry)?;
-    }
-    Ok(made)
 }
 
 // Gives a leaf the vector at place `k`.
