@@ -1,13 +1,13 @@
 //! The check of a rational point: every row is summed exactly there.
 
-ghost use Rattle.std.specs.Prelude.{◌≡◌, ◌<◌, ◌≤◌, ◌+◌, ◌-◌, ◌^◌, ◌↔◌, pos, ◌≤ℤ◌, length, IsTrue, IfOk, MatchOption, MatchResult};
+ghost use Rattle.std.specs.Prelude.{◌≡◌, ◌<◌, ◌≤◌, ◌+◌, ◌-◌, ◌^◌, ◌↔◌, pos, ◌≤ℤ◌, length, IsTrue, IfOk, IfSome, MatchOption, MatchResult};
 ghost use Rattle.row_core.specs.Rows.{dot, entry};
 ghost use Rattle.relation_core.specs.Systems.{columns, width};
 ghost use Rattle.relation_core.specs.Points.{Meets, MeetsAll, HasPoint};
 ghost use Rattle.farkas_cert.specs.Points.{dot_weight, rows_weight, IsPoint};
 
 use crate::checks::TooHeavy;
-use crate::products::with_product;
+use crate::products::{with_product, with_small_product};
 use relation_core::{Part, PartRow, RowKind};
 use row_core::{Coeff, Sum};
 
@@ -60,8 +60,8 @@ fn meets(row: &PartRow, point: &[Coeff]) -> Option<bool>
     ensures { MatchOption result (2 ^ 127 ≤ dot_weight row.now.entries point.now)
         (λ holds. IsTrue holds ↔ Meets row.now.kind (dot row.now.entries point.now)) }
 {
-    let sum = value_at(row.entries.as_slice(), point)?;
-    Some(fits(row.kind, sum.value()))
+    let value = value_at(row.entries.as_slice(), point)?;
+    Some(fits(row.kind, value))
 }
 
 // Whether a row of this kind may have this value.
@@ -75,7 +75,31 @@ fn fits(kind: RowKind, value: Coeff) -> bool
 }
 
 // The value of a row at the point; `None` only where it is too heavy.
-fn value_at(entries: &[Coeff], point: &[Coeff]) -> Option<Sum>
+fn value_at(entries: &[Coeff], point: &[Coeff]) -> Option<Coeff>
+    requires { length entries.now ≡ length point.now }
+    ensures { MatchOption result (2 ^ 127 ≤ dot_weight entries.now point.now)
+        (λ value. value ≡ dot entries.now point.now) }
+{
+    match small_value_at(entries, point) {
+        Some(value) => Coeff::new(i128::from(value)),
+        None => Some(sum_at(entries, point)?.value()),
+    }
+}
+
+// The same by 64 bits, which is quicker; `None` where these are not enough.
+fn small_value_at(entries: &[Coeff], point: &[Coeff]) -> Option<i64>
+    requires { length entries.now ≡ length point.now }
+    ensures { IfSome result (λ value. value ≡ dot entries.now point.now) }
+{
+    let mut value = 0;
+    for k in 0..entries.len() {
+        value = with_small_product(value, entries[k], point[k])?;
+    }
+    Some(value)
+}
+
+// The same by a sum that has its weight.
+fn sum_at(entries: &[Coeff], point: &[Coeff]) -> Option<Sum>
     requires { length entries.now ≡ length point.now }
     ensures { MatchOption result (2 ^ 127 ≤ dot_weight entries.now point.now)
         (λ sum. sum.value ≡ dot entries.now point.now) }

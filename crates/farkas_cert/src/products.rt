@@ -1,6 +1,6 @@
 //! Products added to a sum, most of which are 0.
 
-ghost use Rattle.std.specs.Prelude.{◌≡◌, ◌<◌, ◌≤◌, ◌+◌, ◌^◌, ◌+ℤ◌, ◌*ℤ◌, unsigned_abs, MatchOption};
+ghost use Rattle.std.specs.Prelude.{◌≡◌, ◌<◌, ◌≤◌, ◌+◌, ◌^◌, ◌+ℤ◌, ◌*ℤ◌, unsigned_abs, IfSome, MatchOption};
 
 use row_core::{Coeff, Sum};
 
@@ -13,4 +13,17 @@ pub fn with_product(sum: Sum, c: Coeff, x: Coeff) -> Option<Sum>
         return Some(sum);
     }
     sum.add(c, x)
+}
+
+/// The sum with the product of `c` and `x` added, by 64 bits; `None` where these are not enough.
+pub fn with_small_product(sum: i64, c: Coeff, x: Coeff) -> Option<i64>
+    ensures { IfSome result (λ s. s ≡ sum +ℤ (c *ℤ x)) }
+{
+    if c.is_zero() {
+        return Some(sum);
+    }
+    let (Ok(c), Ok(x)) = (i64::try_from(c.value()), i64::try_from(x.value())) else {
+        return None;
+    };
+    sum.checked_add(c.checked_mul(x)?)
 }

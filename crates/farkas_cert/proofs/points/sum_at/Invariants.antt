@@ -2,7 +2,7 @@ use Rattle.std.proofs.Common.{◌≡◌, ◌+◌, drop}
 use Rattle.std.specs.Prelude.{◌+ℤ◌}
 use Rattle.row_core.specs.Rows.{dot}
 use Rattle.farkas_cert.specs.Points.{dot_weight}
-use Rattle.farkas_cert.proofs.points.value_at.Given as goal
+use Rattle.farkas_cert.proofs.points.sum_at.Given as goal
 
 abbrev pub invariant-loop-k : goal.invariant-loop-k
 invariant-loop-k l = record {
