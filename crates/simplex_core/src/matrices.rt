@@ -1,6 +1,6 @@
 //! A matrix of 64-bit cells.
 
-ghost use Rattle.std.specs.Prelude.{◌≡◌, ◌<◌, ◌≤◌, ◌+◌, IfOk, IfSome, length};
+ghost use Rattle.std.specs.Prelude.{◌≡◌, ◌<◌, ◌≤◌, ◌+◌, IfOk, IfSome};
 
 use crate::divisors::{Divisor, gcd_wide, sum_of_products};
 use std::alloc::Global;
@@ -49,10 +49,12 @@ impl Matrix {
         let Some(rows) = self.rows.checked_add(more) else {
             return Ok(None);
         };
-        let Some(count) = more.checked_mul(self.columns) else {
+        let Some(count) = rows.checked_mul(self.columns) else {
             return Ok(None);
         };
-        let cells = with_zeros(alloc, self.cells.as_slice(), count)?;
+        let mut cells = Vec::with_capacity(alloc, count)?;
+        cells.extend_from_slice(self.cells.as_slice())?;
+        cells.resize(count, 0)?;
         Ok(Some(Matrix {
             rows,
             columns: self.columns,
@@ -217,16 +219,4 @@ impl Matrix {
         }
         Some(())
     }
-}
-
-// The cells, and behind them so many zeros.
-fn with_zeros(alloc: Global, cells: &[i64], count: usize) -> Result<Vec<i64>, NoMemory>
-    ensures { IfOk result (λ made. length made.items ≡ length cells.now + count) }
-{
-    let mut made = Vec::with_capacity(alloc, cells.len().saturating_add(count))?;
-    made.extend_from_slice(cells)?;
-    for _ in 0..count {
-        made.push(0)?;
-    }
-    Ok(made)
 }

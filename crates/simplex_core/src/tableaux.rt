@@ -86,17 +86,23 @@ impl Tableau {
         self.cells.with_rows(alloc, more)
     }
 
-    /// The tableau of these cells, whose rows are its own and further ones of these variables; `None` where
-    /// there are not as many cells.
+    /// The variables of the rows, with room for so many more.
+    pub fn row_variables(&self, alloc: Global, more: usize) -> Result<Vec<Variable>, NoMemory>
+        ensures { IfOk result (λ made. length made.items ≡ self.now.rows) }
+    {
+        let mut made = Vec::with_capacity(alloc, self.rows.len().saturating_add(more))?;
+        made.extend_from_slice(self.rows.as_slice())?;
+        Ok(made)
+    }
+
+    /// The tableau of the same columns whose rows have these variables and the first of these cells; `None`
+    /// where there are not as many cells.
     pub fn with_rows(
         &self,
         alloc: Global,
         cells: Matrix,
-        more: &[Variable],
+        rows: Vec<Variable>,
     ) -> Result<Option<Tableau>, NoMemory> {
-        let mut rows = Vec::with_capacity(alloc, self.rows.len().saturating_add(more.len()))?;
-        rows.extend_from_slice(self.rows.as_slice())?;
-        rows.extend_from_slice(more)?;
         if cells.rows() < rows.len() || cells.columns() != self.columns.len() + 2 {
             return Ok(None);
         }

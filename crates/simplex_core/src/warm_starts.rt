@@ -59,15 +59,15 @@ impl WarmStart {
         let Some(mut cells) = self.tableau.cells_with_rows(alloc, count)? else {
             return Ok(Candidate::Nothing);
         };
-        let mut kept = Vec::new(alloc);
+        let mut rows = self.tableau.row_variables(alloc, count)?;
         for k in 0..count {
             let i = known + k;
             let variable = value_of(system.kind(i), i);
-            let place = known + kept.len();
+            let place = rows.len();
             match self.state(&mut cells, place, &system.rows()[i]) {
                 None => return Ok(Candidate::Nothing),
                 Some(Said::Always) => cells.clear(place),
-                Some(Said::Open) => kept.push(variable)?,
+                Some(Said::Open) => rows.push(variable)?,
                 Some(Said::Never) => {
                     let columns = self.tableau.column_variables();
                     let count = system.row_count();
@@ -75,10 +75,10 @@ impl WarmStart {
                 }
             }
         }
-        if kept.is_empty() {
+        if rows.len() == known {
             return point(alloc, &self.tableau);
         }
-        let Some(mut tableau) = self.tableau.with_rows(alloc, cells, kept.as_slice())? else {
+        let Some(mut tableau) = self.tableau.with_rows(alloc, cells, rows)? else {
             return Ok(Candidate::Nothing);
         };
         search_over(alloc, &mut tableau, known, system.row_count())

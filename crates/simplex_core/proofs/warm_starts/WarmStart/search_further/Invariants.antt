@@ -3,7 +3,7 @@ use Rattle.simplex_core.proofs.warm_starts.WarmStart.search_further.Given as goa
 
 abbrev pub invariant-loop-k : goal.invariant-loop-k
 invariant-loop-k l = record {
-  rows : l.cells.rows ≡ l.known + l.count;
+  cells : l.cells.rows ≡ l.known + l.count;
   columns : 1 < l.cells.columns;
-  kept : length l.kept.items ≤ l.k;
+  places : length l.rows.items ≤ l.known + l.k;
 }
