@@ -44,7 +44,12 @@ fn find_opposed(rows: &[PartRow]) -> Option<Opposed> {
 
 // The first row that contradicts `row`, which stands at place `at`.
 fn opposed_to(rows: &[PartRow], at: usize, row: &PartRow) -> Option<Opposed> {
+    let entries = row.entries.as_slice();
+    let lead = leading_place(entries);
     for k in 0..rows.len() {
+        if !agree_at(rows[k].entries.as_slice(), entries, lead) {
+            continue;
+        }
         if let Some(factors) = factors_of(&rows[k], row) {
             return Some(Opposed {
                 first: k,
@@ -54,6 +59,28 @@ fn opposed_to(rows: &[PartRow], at: usize, row: &PartRow) -> Option<Opposed> {
         }
     }
     None
+}
+
+// The place of a row's first coefficient that is not 0; its length where only the constant may be.
+fn leading_place(entries: &[Coeff]) -> usize {
+    let [coefficients @ .., _] = entries else {
+        return 0;
+    };
+    for k in 0..coefficients.len() {
+        if !coefficients[k].is_zero() {
+            return k;
+        }
+    }
+    entries.len()
+}
+
+// Whether two rows agree at a place up to the sign, or have none there. Most rows that are neither equal nor
+// opposite differ there already.
+fn agree_at(xs: &[Coeff], ys: &[Coeff], place: usize) -> bool {
+    match (xs.get(place), ys.get(place)) {
+        (Some(x), Some(y)) => x.value().unsigned_abs() == y.value().unsigned_abs(),
+        _ => true,
+    }
 }
 
 // The multipliers of two rows that contradict each other.
