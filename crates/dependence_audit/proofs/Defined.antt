@@ -1,10 +1,9 @@
 -- The audit states verdicts exactly where the block is the defined one.
 use Rattle.std.proofs.Common.{◌≡◌, refl, ap, sym, ◌∙◌, subst, ℕ, ◌+◌, ◌<◌, ◌≤◌, ◌^◌, List, [], ◌∷◌, ◌++◌, length, Bool, true, false, ◌&&◌, arith}
-use Rattle.std.specs.Prelude.{ℤ, pos, codes, Option, Some, None, Result, Ok, Err, nat_lt, bytes_eq, if◌then◌else◌}
+use Rattle.std.specs.Prelude.{ℤ, pos, codes, Option, Some, None, Result, Ok, Err, nat_lt, if◌then◌else◌}
 use Rattle.std.specs.Ordering.{int_eq}
 use Rattle.std.proofs.lemmas.Bool.{and_parts, and_from}
 use Rattle.std.proofs.lemmas.Bool.Decides.{Decides-int_eq, Decides-ltb, not_from_Decides}
-use Rattle.std.proofs.lemmas.Slice.Eq.{bytes_eq-Decides}
 use Rattle.suite_base.specs.Limits.{max_systems}
 use Rattle.suite_base.specs.Numbers.{number_read}
 use Rattle.suite_base.specs.Words.{words}
@@ -16,6 +15,8 @@ use Rattle.suite_base.specs.declared.refusals.Where.TheVariants.{System as OfSys
 use Rattle.suite_base.specs.declared.refusals.Which.TheVariants.{Systems}
 use Rattle.relation_core.specs.Systems.{System, columns}
 use Rattle.relation_core.specs.declared.part_rows.PartRow.{PartRow}
+use Rattle.scop_data.specs.LineWords.{are_same, is_value, are_numbers, row_numbers, header_numbers}
+use Rattle.scop_data.proofs.LineWords.{same_words, words_same}
 use Rattle.farkas_cert.specs.Texts.{certificate_read, multipliers_read, in_range, one_more}
 use Rattle.farkas_cert.specs.Certificates.{IsTooHeavy}
 use Rattle.scop_core.specs.ScopData.{ScopData}
@@ -24,19 +25,19 @@ use Rattle.dependence_systems.specs.Sides.{Side, own_sides}
 use Rattle.dependence_systems.specs.Entries.{entries}
 use Rattle.dependence_systems.specs.Systems.{system_of, summand_weight}
 use Rattle.dependence_blocks.specs.Blocks.{block_name, entry_words, verdict_word}
-use Rattle.dependence_audit.specs.Contents.{contents, same_words, is_value, are_numbers, says, row_numbers, header_numbers}
+use Rattle.dependence_audit.specs.Contents.{contents, says}
 use Rattle.dependence_audit.specs.Readings.{Reading, Stands, Wrong, Heavy, is_heavy, is_valid, judged, read_rows, read_kept, read_dropped, read_entry}
 use Rattle.dependence_audit.specs.Audits.{Verdicts, in_front, by_reading, read_entries, read_block, read_found, first_named, verdicts_in}
 use Rattle.dependence_audit.specs.Defined.{Says, SayRows, SayVerdict, BeginsDefined, AreDefined, IsDefinedBlock, AuditIsExact}
 use Rattle.dependence_audit.proofs.Certified.{valid_is, valid_tells, not_heavy, heavy_is}
 use Rattle.dependence_audit.proofs.EntryReadings.{head_of, reads_kept, reads_dropped, light_entry, heavy_test}
-use Rattle.dependence_audit.proofs.PrintedLines.{same_own, other_verdict}
+use Rattle.dependence_audit.proofs.PrintedLines.{other_verdict}
 use Rattle.dependence_audit.proofs.Printed.{chosen, refused}
 use Rattle.dependence_audit.proofs.Sound.{if_holds}
 
 -- ---- numbers
 
-value_tells : (r : NumberRead) (z : ℤ) → is_value r z ≡ true → in_range r ≡ Some z
+value_tells : (r : NumberRead) (z : ℤ) → is_value z r ≡ true → in_range r ≡ Some z
 value_tells (Value y) z e = ap Some ((Decides-int_eq y z).0 e)
 value_tells TooLarge z e = absurd cc
 value_tells NotNumber z e = absurd cc
@@ -46,7 +47,7 @@ numbers_tell [] [] e = refl
 numbers_tell [] (z ∷ zs) e = absurd cc
 numbers_tell (w ∷ ws) [] e = absurd cc
 numbers_tell (w ∷ ws) (z ∷ zs) e =
-    let p = and_parts (is_value (number_read w) z) (are_numbers ws zs) e in
+    let p = and_parts (is_value z (number_read w)) (are_numbers ws zs) e in
     ap (λ r. one_more r (multipliers_read ws)) (value_tells (number_read w) z p.0) ∙ ap (one_more (Some z)) (numbers_tell ws zs p.1)
 
 abbrev numbers_or : List ℤ → Option (List ℤ) → List ℤ
@@ -55,7 +56,7 @@ numbers_or zs (Some ys) = ys
 
 abbrev more_numbers : List (List ℕ) → NumberRead → List ℤ → Bool
 more_numbers ws r [] = false
-more_numbers ws r (z ∷ zs) = is_value r z && are_numbers ws zs
+more_numbers ws r (z ∷ zs) = is_value z r && are_numbers ws zs
 
 tell_more : (ws : List (List ℕ)) (r : NumberRead) (m : Option (List ℤ)) (zs : List ℤ) → ((ys : List ℤ) → m ≡ Some ys → are_numbers ws ys ≡ true)
     → one_more (in_range r) m ≡ Some zs → more_numbers ws r zs ≡ true
@@ -159,14 +160,6 @@ dropped_fits : (system : System) (lines : List (List ℕ)) → VerdictFits syste
 dropped_fits system [] = (tt, tt)
 dropped_fits system (line ∷ lines) = judged_fits system line (certificate_read line) lines refl
 
-same_tells : (vs ws : List (List ℕ)) → same_words vs ws ≡ true → vs ≡ ws
-same_tells [] [] e = refl
-same_tells [] (w ∷ ws) e = absurd cc
-same_tells (v ∷ vs) [] e = absurd cc
-same_tells (v ∷ vs) (w ∷ ws) e =
-    let p = and_parts (bytes_eq v w) (same_words vs ws) e in
-    ap (λ (x : List ℕ). x ∷ vs) ((bytes_eq-Decides v w).0 p.0) ∙ ap (λ (xs : List (List ℕ)). w ∷ xs) (same_tells vs ws p.1)
-
 kept_head : (e : Dep) (system : System) (line : List ℕ) (lines : List (List ℕ)) (r : Reading) → words line ≡ head_of e (codes "kept")
     → VerdictFits system lines r → IsKeptReading r → EntryFits e system (line ∷ lines) r
 kept_head e system line lines (Stands None rest) h f k = (line, f.0, ap (λ (t : List (List ℕ)). line ∷ t) f.1, h, f.2)
@@ -184,12 +177,12 @@ dropped_head e system line lines Heavy h f k = tt
 entry_fits : (e : Dep) (system : System) (lines : List (List ℕ)) → EntryFits e system lines (read_entry e system lines)
 entry_fits e system [] = tt
 entry_fits e system (line ∷ lines) =
-    let kept = same_words (words line) (head_of e (codes "kept")) in
-    let dropped = same_words (words line) (head_of e (codes "dropped")) in
+    let kept = are_same (words line) (head_of e (codes "kept")) in
+    let dropped = are_same (words line) (head_of e (codes "dropped")) in
     if_holds (EntryFits e system (line ∷ lines)) kept (read_kept system lines) (if dropped then read_dropped system lines else Wrong)
-    (λ f. kept_head e system line lines (read_kept system lines) (same_tells (words line) (head_of e (codes "kept")) f) (kept_fits system lines).0 (kept_fits system lines).1)
+    (λ f. kept_head e system line lines (read_kept system lines) (same_words (words line) (head_of e (codes "kept")) f) (kept_fits system lines).0 (kept_fits system lines).1)
     (λ f. if_holds (EntryFits e system (line ∷ lines)) dropped (read_dropped system lines) Wrong
-    (λ g. dropped_head e system line lines (read_dropped system lines) (same_tells (words line) (head_of e (codes "dropped")) g) (dropped_fits system lines).0 (dropped_fits system lines).1)
+    (λ g. dropped_head e system line lines (read_dropped system lines) (same_words (words line) (head_of e (codes "dropped")) g) (dropped_fits system lines).0 (dropped_fits system lines).1)
     (λ g. tt))
 
 -- ---- from verdicts to the entries
@@ -292,11 +285,11 @@ dropped_read system ls (line ∷ (next ∷ own)) rest s = absurd s
 entry_read : (e : Dep) (system : System) (weight : ℕ) (verdict : Option (List ℤ)) (lines rest : List (List ℕ)) → BeginsDefined e system weight verdict lines rest
     → read_entry e system lines ≡ Stands verdict rest
 entry_read e system weight None lines rest b =
-    reads_kept e system lines b.head (b.own ++ rest) b.split (sym (ap (λ ws. same_words ws (head_of e (codes "kept"))) b.head_is ∙ same_own (head_of e (codes "kept"))))
+    reads_kept e system lines b.head (b.own ++ rest) b.split (sym (ap (λ ws. are_same ws (head_of e (codes "kept"))) b.head_is ∙ words_same (head_of e (codes "kept"))))
     ∙ kept_read system b.own rest b.verdict_is
 entry_read e system weight (Some ls) lines rest b =
-    reads_dropped e system lines b.head (b.own ++ rest) b.split (sym (ap (λ ws. same_words ws (head_of e (codes "kept"))) b.head_is ∙ other_verdict e))
-    (sym (ap (λ ws. same_words ws (head_of e (codes "dropped"))) b.head_is ∙ same_own (head_of e (codes "dropped"))))
+    reads_dropped e system lines b.head (b.own ++ rest) b.split (sym (ap (λ ws. are_same ws (head_of e (codes "kept"))) b.head_is ∙ other_verdict e))
+    (sym (ap (λ ws. are_same ws (head_of e (codes "dropped"))) b.head_is ∙ words_same (head_of e (codes "dropped"))))
     ∙ dropped_read system ls b.own rest b.verdict_is
 
 entries_read : (context : System) (sides : List Side) (k : ℕ) (list : List Dep) (verdicts : Verdicts) (lines : List (List ℕ)) → AreDefined context sides list verdicts lines

@@ -8,12 +8,12 @@ use Rattle.suite_base.specs.Words.{words}
 use Rattle.suite_base.specs.declared.refusals.Refusal.TheVariants.{Overflow, BadCertificate}
 use Rattle.suite_base.specs.declared.refusals.Where.TheVariants.{System as OfSystem}
 use Rattle.relation_core.specs.Systems.{System}
+use Rattle.scop_data.specs.LineWords.{are_same}
 use Rattle.dependence_systems.specs.declared.dependences.Dep.{Dep}
 use Rattle.dependence_systems.specs.Sides.{Side}
 use Rattle.dependence_systems.specs.Systems.{system_of, summand_weight}
 use Rattle.dependence_blocks.specs.Blocks.{entry_words}
 use Rattle.dependence_audit.specs.declared.readings.Finding.TheVariants as finding
-use Rattle.dependence_audit.specs.Contents.{same_words}
 use Rattle.dependence_audit.specs.Readings.{Reading, Stands, Wrong, Heavy, read_kept, read_dropped, read_entry, IsFound}
 use Rattle.dependence_audit.specs.Audits.{by_reading, read_entries, EntryStands}
 
@@ -23,25 +23,25 @@ abbrev pub head_of : Dep → List ℕ → List (List ℕ)
 head_of e verdict = entry_words e ++ verdict ∷ []
 
 pub reads_kept : (e : Dep) (system : System) (old : List (List ℕ)) (line : List ℕ) (lines : List (List ℕ)) → old ≡ line ∷ lines
-    → true ≡ same_words (words line) (head_of e (codes "kept")) → read_entry e system old ≡ read_kept system lines
+    → true ≡ are_same (words line) (head_of e (codes "kept")) → read_entry e system old ≡ read_kept system lines
 reads_kept e system old line lines taken head =
     ap (read_entry e system) taken
-    ∙ ap (λ b. if b then read_kept system lines else (if same_words (words line) (head_of e (codes "dropped")) then read_dropped system lines else Wrong)) (sym head)
+    ∙ ap (λ b. if b then read_kept system lines else (if are_same (words line) (head_of e (codes "dropped")) then read_dropped system lines else Wrong)) (sym head)
 
 pub reads_dropped : (e : Dep) (system : System) (old : List (List ℕ)) (line : List ℕ) (lines : List (List ℕ)) → old ≡ line ∷ lines
-    → false ≡ same_words (words line) (head_of e (codes "kept")) → true ≡ same_words (words line) (head_of e (codes "dropped"))
+    → false ≡ are_same (words line) (head_of e (codes "kept")) → true ≡ are_same (words line) (head_of e (codes "dropped"))
     → read_entry e system old ≡ read_dropped system lines
 reads_dropped e system old line lines taken other head =
     ap (read_entry e system) taken
-    ∙ (ap (λ b. if b then read_kept system lines else (if same_words (words line) (head_of e (codes "dropped")) then read_dropped system lines else Wrong)) (sym other)
+    ∙ (ap (λ b. if b then read_kept system lines else (if are_same (words line) (head_of e (codes "dropped")) then read_dropped system lines else Wrong)) (sym other)
     ∙ ap (λ b. if b then read_dropped system lines else Wrong) (sym head))
 
 pub reads_neither : (e : Dep) (system : System) (old : List (List ℕ)) (line : List ℕ) (lines : List (List ℕ)) → old ≡ line ∷ lines
-    → false ≡ same_words (words line) (head_of e (codes "kept")) → false ≡ same_words (words line) (head_of e (codes "dropped"))
+    → false ≡ are_same (words line) (head_of e (codes "kept")) → false ≡ are_same (words line) (head_of e (codes "dropped"))
     → read_entry e system old ≡ Wrong
 reads_neither e system old line lines taken other neither =
     ap (read_entry e system) taken
-    ∙ (ap (λ b. if b then read_kept system lines else (if same_words (words line) (head_of e (codes "dropped")) then read_dropped system lines else Wrong)) (sym other)
+    ∙ (ap (λ b. if b then read_kept system lines else (if are_same (words line) (head_of e (codes "dropped")) then read_dropped system lines else Wrong)) (sym other)
     ∙ ap (λ b. if b then read_dropped system lines else Wrong) (sym neither))
 
 -- ---- by what was found

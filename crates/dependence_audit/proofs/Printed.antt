@@ -12,6 +12,8 @@ use Rattle.row_core.specs.Rows.{AreCoefficients}
 use Rattle.relation_core.specs.Systems.{System, columns, row_at, IsWellFormed}
 use Rattle.relation_core.specs.Layouts.{header_text, row_text}
 use Rattle.relation_core.specs.declared.part_rows.PartRow.{PartRow}
+use Rattle.scop_data.specs.LineWords.{are_same, row_numbers, header_numbers}
+use Rattle.scop_data.proofs.LineWords.{words_same}
 use Rattle.farkas_cert.specs.Texts.{certificate_line}
 use Rattle.farkas_cert.specs.Certificates.{Valid, IsTooHeavy}
 use Rattle.scop_core.specs.ScopData.{ScopData, others}
@@ -21,13 +23,13 @@ use Rattle.dependence_systems.specs.Sides.{Side, own_sides}
 use Rattle.dependence_systems.specs.Entries.{entries}
 use Rattle.dependence_systems.specs.Systems.{system_of, summand_weight}
 use Rattle.dependence_blocks.specs.Blocks.{block_name, block_of, block_lines, lines_of, entry_lines, system_lines, entry_words}
-use Rattle.dependence_audit.specs.Contents.{contents, same_words, says, row_numbers, header_numbers}
+use Rattle.dependence_audit.specs.Contents.{contents, says}
 use Rattle.dependence_audit.specs.Readings.{Stands, Wrong, Heavy, is_heavy, is_valid, judged, read_rows, read_kept, read_dropped, read_entry}
 use Rattle.dependence_audit.specs.Audits.{Verdicts, in_front, by_reading, read_entries, read_block, read_found, first_named, verdicts_in, counted}
 use Rattle.dependence_audit.specs.Theorems.{IsPrintable, ArePrintable, with_block, PrintedBlocksPass}
 use Rattle.dependence_audit.proofs.Certified.{valid_is, not_heavy}
 use Rattle.dependence_audit.proofs.EntryReadings.{reads_kept, reads_dropped, light_entry, heavy_test}
-use Rattle.dependence_audit.proofs.PrintedLines.{numbers_line, numbers_said, says_numbers, reads_numbers, row_line_is, header_line_is, row_coefficients, header_coefficients, count_coefficient, head_said, head_kept_in, head_words, same_own, other_verdict}
+use Rattle.dependence_audit.proofs.PrintedLines.{numbers_line, numbers_said, says_numbers, reads_numbers, row_line_is, header_line_is, row_coefficients, header_coefficients, count_coefficient, head_said, head_kept_in, head_words, other_verdict}
 
 -- the choice that a test makes
 pub chosen : {A : Type 0} (b : Bool) (x y : A) → b ≡ true → (if b then x else y) ≡ x
@@ -81,14 +83,14 @@ entry_stands e system weight None more p =
     let w = head_words e (codes "kept") p.readable.range refl refl in
     let here = head_kept_in e (codes "kept") (system_lines system ++ more) p.readable.range refl refl in
     reads_kept e system (contents (entry_lines e system None ++ more)) (head_said e (codes "kept")) (contents (system_lines system ++ more)) here
-    (sym (ap (λ ws. same_words ws (entry_words e ++ codes "kept" ∷ [])) w ∙ same_own (entry_words e ++ codes "kept" ∷ [])))
+    (sym (ap (λ ws. are_same ws (entry_words e ++ codes "kept" ∷ [])) w ∙ words_same (entry_words e ++ codes "kept" ∷ [])))
     ∙ kept_stands system more p.readable.formed p.readable.few
 entry_stands e system weight (Some ls) more p =
     let w = head_words e (codes "dropped") p.readable.range refl refl in
     let here = head_kept_in e (codes "dropped") (certificate_line ls ∷ more) p.readable.range refl refl in
     reads_dropped e system (contents (entry_lines e system (Some ls) ++ more)) (head_said e (codes "dropped")) (contents (certificate_line ls ∷ more)) here
-    (sym (ap (λ ws. same_words ws (entry_words e ++ codes "kept" ∷ [])) w ∙ other_verdict e))
-    (sym (ap (λ ws. same_words ws (entry_words e ++ codes "dropped" ∷ [])) w ∙ same_own (entry_words e ++ codes "dropped" ∷ [])))
+    (sym (ap (λ ws. are_same ws (entry_words e ++ codes "kept" ∷ [])) w ∙ other_verdict e))
+    (sym (ap (λ ws. are_same ws (entry_words e ++ codes "dropped" ∷ [])) w ∙ words_same (entry_words e ++ codes "dropped" ∷ [])))
     ∙ dropped_stands system ls more p.readable.multipliers p.certified.0 p.certified.1
 
 -- ---- all entries

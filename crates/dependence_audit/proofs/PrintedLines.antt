@@ -17,6 +17,7 @@ use Rattle.relation_core.specs.Layouts as layout
 use Rattle.relation_core.specs.declared.part_rows.PartRow.{PartRow}
 use Rattle.relation_core.specs.declared.part_rows.RowKind.{RowKind}
 use Rattle.relation_core.specs.declared.part_rows.RowKind.TheVariants.{Equal, AtLeast}
+use Rattle.scop_data.specs.LineWords.{are_same, is_value, are_numbers, kind_number, row_numbers, header_numbers}
 use Rattle.farkas_cert.specs.Texts.{certificate_line, certificate_read, multipliers_read}
 use Rattle.farkas_cert.proofs.TextLaws.{line_is, reads_back_law}
 use Rattle.scop_core.specs.Printable.{has_no}
@@ -26,7 +27,7 @@ use Rattle.dependence_systems.specs.declared.dependences.DepKind.{DepKind}
 use Rattle.dependence_systems.specs.declared.dependences.DepKind.TheVariants.{Raw, War, Waw}
 use Rattle.dependence_blocks.specs.Blocks.{kind_word, entry_numbers, entry_words, head_line}
 use Rattle.dependence_blocks.specs.KeptLines.{HasRange}
-use Rattle.dependence_audit.specs.Contents.{before, contents, same_words, is_value, are_numbers, says, kind_number, row_numbers, header_numbers}
+use Rattle.dependence_audit.specs.Contents.{before, contents, says}
 use Rattle.dependence_audit.proofs.TrimmedWords.{content_words}
 
 -- ---- lines without a comment
@@ -99,8 +100,8 @@ numbers_plain (z ∷ zs) h = let small : unsigned_abs z < 2 ^ 127 = h 0 in (sign
 numbers_are : (zs : List ℤ) → AreSmall zs → are_numbers (map signed_decimal zs) zs ≡ true
 numbers_are [] h = refl
 numbers_are (z ∷ zs) h =
-    and_from (is_value (number_read (signed_decimal z)) z) (are_numbers (map signed_decimal zs) zs)
-    (ap (λ r. is_value r z) (signed_decimal_reads z (h 0)) ∙ (Decides-int_eq z z).1 refl) (numbers_are zs (λ k. h (suc k)))
+    and_from (is_value z (number_read (signed_decimal z))) (are_numbers (map signed_decimal zs) zs)
+    (ap (λ r. is_value z r) (signed_decimal_reads z (h 0)) ∙ (Decides-int_eq z z).1 refl) (numbers_are zs (λ k. h (suc k)))
 
 -- the content line of numbers
 abbrev pub numbers_line : List ℤ → List ℕ
@@ -215,13 +216,9 @@ head_words e verdict h k p =
 
 -- ---- words that are compared
 
-pub same_own : (ws : List (List ℕ)) → same_words ws ws ≡ true
-same_own [] = refl
-same_own (w ∷ ws) = and_from (bytes_eq w w) (same_words ws ws) ((bytes_eq-Decides w w).1 refl) (same_own ws)
-
-front_same : (ws : List (List ℕ)) (v w : List ℕ) → same_words (ws ++ v ∷ []) (ws ++ w ∷ []) ≡ (bytes_eq v w && true)
+front_same : (ws : List (List ℕ)) (v w : List ℕ) → are_same (ws ++ v ∷ []) (ws ++ w ∷ []) ≡ (bytes_eq v w && true)
 front_same [] v w = refl
-front_same (x ∷ ws) v w = ap (λ b. b && same_words (ws ++ v ∷ []) (ws ++ w ∷ [])) ((bytes_eq-Decides x x).1 refl) ∙ front_same ws v w
+front_same (x ∷ ws) v w = ap (λ b. b && are_same (ws ++ v ∷ []) (ws ++ w ∷ [])) ((bytes_eq-Decides x x).1 refl) ∙ front_same ws v w
 
-pub other_verdict : (e : Dep) → same_words (entry_words e ++ codes "dropped" ∷ []) (entry_words e ++ codes "kept" ∷ []) ≡ false
+pub other_verdict : (e : Dep) → are_same (entry_words e ++ codes "dropped" ∷ []) (entry_words e ++ codes "kept" ∷ []) ≡ false
 other_verdict e = front_same (entry_words e) (codes "dropped") (codes "kept")

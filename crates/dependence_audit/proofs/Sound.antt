@@ -9,6 +9,7 @@ use Rattle.suite_base.specs.declared.refusals.Where.TheVariants.{System as OfSys
 use Rattle.suite_base.specs.declared.refusals.Which.TheVariants.{Systems}
 use Rattle.relation_core.specs.Systems.{System, columns}
 use Rattle.relation_core.specs.declared.part_rows.PartRow.{PartRow}
+use Rattle.scop_data.specs.LineWords.{are_same, row_numbers, header_numbers}
 use Rattle.farkas_cert.specs.Texts.{certificate_read}
 use Rattle.farkas_cert.proofs.Laws.{valid_law}
 use Rattle.scop_core.specs.ScopData.{ScopData}
@@ -21,7 +22,7 @@ use Rattle.dependence_blocks.specs.Blocks.{block_name}
 use Rattle.dependence_blocks.specs.Conflicts.{AreSound}
 use Rattle.dependence_blocks.proofs.Kept.{kept_hold_conflicts}
 use Rattle.dependence_audit.specs.declared.audits.Counts.{Counts}
-use Rattle.dependence_audit.specs.Contents.{contents, says, same_words, row_numbers, header_numbers}
+use Rattle.dependence_audit.specs.Contents.{contents, says}
 use Rattle.dependence_audit.specs.Readings.{Reading, Stands, Wrong, Heavy, is_heavy, is_valid, judged, read_rows, read_kept, read_dropped, read_entry}
 use Rattle.dependence_audit.specs.Audits.{Verdicts, in_front, by_reading, read_entries, read_block, read_found, first_named, verdicts_in, counted}
 use Rattle.dependence_audit.specs.Theorems.{IsCertified, AreCertified, IsAudited, AuditedBlocksAreSound}
@@ -65,8 +66,8 @@ dropped_fair system (line ∷ lines) = judged_fair system (certificate_read line
 entry_fair : (e : Dep) (system : System) (lines : List (List ℕ)) → IsFair system (read_entry e system lines)
 entry_fair e system [] = tt
 entry_fair e system (line ∷ lines) =
-    let kept = same_words (words line) (head_of e (codes "kept")) in
-    let dropped = same_words (words line) (head_of e (codes "dropped")) in
+    let kept = are_same (words line) (head_of e (codes "kept")) in
+    let dropped = are_same (words line) (head_of e (codes "dropped")) in
     if_holds (IsFair system) kept (read_kept system lines) (if dropped then read_dropped system lines else Wrong) (λ f. kept_fair system lines)
     (λ f. if_holds (IsFair system) dropped (read_dropped system lines) Wrong (λ g. dropped_fair system lines) (λ g. tt))
 

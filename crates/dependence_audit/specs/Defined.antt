@@ -4,6 +4,7 @@ use Rattle.suite_base.specs.Limits.{max_systems}
 use Rattle.suite_base.specs.Words.{words}
 use Rattle.relation_core.specs.Systems.{System, columns}
 use Rattle.relation_core.specs.declared.part_rows.PartRow.{PartRow}
+use Rattle.scop_data.specs.LineWords.{row_numbers, header_numbers}
 use Rattle.farkas_cert.specs.Texts.{certificate_read}
 use Rattle.farkas_cert.specs.Certificates.{Valid, IsTooHeavy}
 use Rattle.scop_core.specs.ScopData.{ScopData}
@@ -12,7 +13,7 @@ use Rattle.dependence_systems.specs.Sides.{Side, own_sides}
 use Rattle.dependence_systems.specs.Entries.{entries}
 use Rattle.dependence_systems.specs.Systems.{system_of, summand_weight}
 use Rattle.dependence_blocks.specs.Blocks.{block_name, entry_words, verdict_word}
-use Rattle.dependence_audit.specs.Contents.{contents, row_numbers, header_numbers}
+use Rattle.dependence_audit.specs.Contents.{contents}
 use Rattle.dependence_audit.specs.Audits.{Verdicts, first_named, verdicts_in}
 
 -- the words of the line are number words in range, of these numbers

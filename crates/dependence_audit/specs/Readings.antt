@@ -7,12 +7,13 @@ use Rattle.relation_core.specs.Points.{column, column_weight}
 use Rattle.relation_core.specs.declared.part_rows.PartRow.{PartRow}
 use Rattle.relation_core.specs.declared.part_rows.RowKind.{RowKind}
 use Rattle.relation_core.specs.declared.part_rows.RowKind.TheVariants.{Equal, AtLeast}
+use Rattle.scop_data.specs.LineWords.{are_same, row_numbers, header_numbers}
 use Rattle.farkas_cert.specs.Texts.{certificate_read}
 use Rattle.dependence_systems.specs.declared.dependences.Dep.{Dep}
 use Rattle.dependence_blocks.specs.Blocks.{entry_words}
 use Rattle.dependence_audit.specs.declared.readings.Finding.{Finding}
 use Rattle.dependence_audit.specs.declared.readings.Finding.TheVariants as finding
-use Rattle.dependence_audit.specs.Contents.{same_words, says, row_numbers, header_numbers}
+use Rattle.dependence_audit.specs.Contents.{says}
 
 -- an inequality may be multiplied by what is not negative, an equality by anything
 abbrev pub may_multiply : RowKind → ℤ → Bool
@@ -78,8 +79,8 @@ read_dropped system (line ∷ lines) = judged system (certificate_read line) lin
 abbrev pub read_entry : Dep → System → List (List ℕ) → Reading
 read_entry e system [] = Wrong
 read_entry e system (line ∷ lines) =
-    if same_words (words line) (entry_words e ++ codes "kept" ∷ []) then read_kept system lines
-    else (if same_words (words line) (entry_words e ++ codes "dropped" ∷ []) then read_dropped system lines else Wrong)
+    if are_same (words line) (entry_words e ++ codes "kept" ∷ []) then read_kept system lines
+    else (if are_same (words line) (entry_words e ++ codes "dropped" ∷ []) then read_dropped system lines else Wrong)
 
 -- what the code says of a reading; where the entry is the defined one, the lines behind it are left
 abbrev pub IsFound : Reading → Finding → List (List ℕ) → Type 0

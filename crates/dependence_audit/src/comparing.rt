@@ -3,6 +3,7 @@
 ghost use Rattle.std.specs.Prelude.{◌≡◌, ◌≤◌, ◌<◌, ◌^◌, ◌∷◌, [], map, drop, length, pos, true, false, unsigned_abs, MatchOption};
 ghost use Rattle.suite_base.specs.Numbers.{number_read};
 ghost use Rattle.suite_base.specs.Words.{words};
+ghost use Rattle.scop_data.specs.LineWords as said;
 ghost use Rattle.dependence_audit.specs.Contents as spec;
 
 use relation_core::{Part, PartRow, RowKind};
@@ -11,7 +12,7 @@ use suite_base::{NumberRead, next_word, read_number};
 
 /// Whether the words of `line` are these, byte by byte.
 pub fn words_are(line: &[u8], expected: &[&[u8]]) -> bool
-    ensures { result ≡ spec.same_words (words line.now) (map (λ word. word.now) expected.now) }
+    ensures { result ≡ said.are_same (words line.now) (map (λ word. word.now) expected.now) }
 {
     let mut from = 0;
     for word in expected {
@@ -46,7 +47,7 @@ pub fn count_is(line: &[u8], count: usize) -> bool
 
 /// Whether the words of `line` are number words of the six numbers of `system`.
 pub fn header_is(line: &[u8], system: &Part) -> bool
-    ensures { result ≡ spec.says line.now (spec.header_numbers system.now) }
+    ensures { result ≡ spec.says line.now (said.header_numbers system.now) }
 {
     let shape = system.shape();
     let numbers = [
@@ -62,7 +63,7 @@ pub fn header_is(line: &[u8], system: &Part) -> bool
 
 /// Whether the words of `line` are number words of the kind of `row` and of its entries.
 pub fn row_is(line: &[u8], row: &PartRow) -> bool
-    ensures { result ≡ spec.says line.now (spec.row_numbers row.now) }
+    ensures { result ≡ spec.says line.now (said.row_numbers row.now) }
 {
     match number_follows(line, 0, kind_number(row.kind)) {
         None => false,
@@ -72,7 +73,7 @@ pub fn row_is(line: &[u8], row: &PartRow) -> bool
 
 // The number of a row's kind.
 fn kind_number(kind: RowKind) -> i128
-    ensures { result ≡ spec.kind_number kind }
+    ensures { result ≡ said.kind_number kind }
 {
     match kind {
         RowKind::Equal => 0,
@@ -83,7 +84,7 @@ fn kind_number(kind: RowKind) -> i128
 // Whether the words at or after `from` are number words of these numbers.
 fn numbers_are(line: &[u8], from: usize, numbers: &[Coeff]) -> bool
     requires { from ≤ length line.now }
-    ensures { result ≡ spec.are_numbers (words (drop from line.now)) numbers.now }
+    ensures { result ≡ said.are_numbers (words (drop from line.now)) numbers.now }
 {
     let mut at = from;
     for number in numbers {
@@ -110,7 +111,7 @@ fn number_follows(line: &[u8], from: usize, number: i128) -> Option<usize>
 
 // Whether this is a number word of this number.
 fn number_is(word: &[u8], number: i128) -> bool
-    ensures { result ≡ spec.is_value (number_read word.now) number }
+    ensures { result ≡ said.is_value number (number_read word.now) }
 {
     match read_number(word) {
         NumberRead::Value(value) => value == number,

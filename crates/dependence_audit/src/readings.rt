@@ -2,8 +2,8 @@
 
 ghost use Rattle.std.specs.Prelude.{◌≡◌, ◌++◌, ◌∷◌, [], IfOk, List, ℕ, Some};
 ghost use Rattle.suite_base.specs.Words.{words};
+ghost use Rattle.scop_data.specs.LineWords.{are_same};
 ghost use Rattle.dependence_blocks.specs.Blocks.{entry_words, kind_word};
-ghost use Rattle.dependence_audit.specs.Contents.{same_words};
 ghost use Rattle.dependence_audit.specs.Readings as spec;
 
 use crate::comparing::{header_is, row_is, words_are};
@@ -51,7 +51,7 @@ pub fn read_entry(
 
 // Whether the words of a line are those of an entry and a verdict.
 fn head_is(line: &[u8], entry: &Dep, verdict: &'static [u8]) -> bool
-    ensures { result ≡ same_words (words line.now) (entry_words entry.now ++ verdict.now ∷ []) }
+    ensures { result ≡ are_same (words line.now) (entry_words entry.now ++ verdict.now ∷ []) }
 {
     let mut source_digits = Buffer::new();
     let mut target_digits = Buffer::new();

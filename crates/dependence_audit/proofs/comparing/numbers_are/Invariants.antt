@@ -1,6 +1,6 @@
 use Rattle.std.proofs.Common.{◌≡◌, ◌≤◌, drop, length}
 use Rattle.suite_base.specs.Words.{words}
-use Rattle.dependence_audit.specs.Contents.{are_numbers}
+use Rattle.scop_data.specs.LineWords.{are_numbers}
 use Rattle.dependence_audit.proofs.comparing.numbers_are.Given as goal
 
 abbrev pub invariant-loop-number : goal.invariant-loop-number
