@@ -14,7 +14,7 @@ use Rattle.schedule_forms.proofs.SolvedDots.{dot_append}
 use Rattle.dependence_systems.proofs.Segments.{dot_zeros, length_zeros}
 use Rattle.dependence_systems.proofs.SystemMeanings.{length_floors}
 use Rattle.legality.specs.Mixed.{padded, mixed}
-use Rattle.legality.specs.Edits.{FloorsGoOn}
+use Rattle.edit_laws.specs.Keeping.{FloorsGoOn}
 
 -- coefficients that are 0 add nothing
 padded_value : (form : Affine) (k : ℕ) (x f rest n : List ℤ) → length form.floors ≡ length f → affine_at (padded k form) x (f ++ rest) n ≡ affine_at form x f n

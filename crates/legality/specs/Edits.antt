@@ -1,8 +1,7 @@
 -- What an edit keeps of the statements of a SCoP: each new statement is a piece of an old one.
-use Rattle.std.specs.Prelude.{◌≡◌, ℕ, ℤ, List, [], ◌∷◌, ◌++◌, length, IsSomeAnd}
-use Rattle.scop_data.specs.declared.schedules.Schedule.{Schedule}
+use Rattle.std.specs.Prelude.{◌≡◌, ℕ, ℤ, List, [], ◌∷◌, length, IsSomeAnd}
 use Rattle.scop_data.specs.declared.statements.Statement.{Statement}
-use Rattle.scop_core.specs.Meaning.{Instance, floors_after}
+use Rattle.scop_core.specs.Meaning.{Instance}
 use Rattle.scop_core.specs.Validity.{IsValid}
 use Rattle.scop_core.specs.MappedRuns.{MapsInstances, IsReversed}
 use Rattle.scop_core.specs.RunLaws.{HasNoTies}
@@ -11,11 +10,8 @@ use Rattle.scop_core.specs.Meaning.{InContext, Run}
 use Rattle.scop_core.specs.Sequences.{In}
 use Rattle.dependence_systems.specs.Sides.{member}
 use Rattle.dependence_systems.specs.Originals.{as_original}
+use Rattle.edit_laws.specs.Keeping.{FloorsGoOn}
 use Rattle.legality.specs.Violations.{Edit, Violation, violations, violation_system}
-
--- the floors of one schedule begin with those of another, by their values
-abbrev pub FloorsGoOn : Schedule → Schedule → Type 0
-FloorsGoOn old now = (x n : List ℤ) → (rest : List ℤ) × (floors_after [] now.floors x n ≡ floors_after [] old.floors x n ++ rest)
 
 -- a statement has the iterators of its original, and floors that go on those of it
 pub record IsPieceOf (original s : Statement) : Type 0 where

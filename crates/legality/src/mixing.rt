@@ -3,8 +3,9 @@
 ghost use Rattle.std.specs.Prelude.{◌≡◌, map, IfOk};
 ghost use Rattle.legality.specs.Mixed.{padded, mixed};
 
-use row_core::{Coeff, DenseRow};
-use scop_core::{Affine, Floor, Schedule};
+use row_core::DenseRow;
+use scop_core::{Affine, Schedule};
+use scop_data::copies::{copied_coeffs, copied_floors};
 use std::alloc::Global;
 use suite_base::{List, NoMemory};
 
@@ -35,45 +36,6 @@ fn padded_values(alloc: Global, values: &[Affine], count: usize) -> Result<List<
     Ok(made)
 }
 
-// A copy of a floor.
-fn copied_floor(alloc: Global, floor: &Floor) -> Result<Floor, NoMemory>
-    ensures { IfOk result (λ made. made ≡ floor.now) }
-{
-    let value = Affine::new(
-        alloc,
-        floor.value.iterators(),
-        floor.value.floors(),
-        floor.value.parameters(),
-        floor.value.constant(),
-    )?;
-    Ok(Floor {
-        value,
-        size: floor.size,
-    })
-}
-
-// A copy of a list of floors.
-fn copied_floors(alloc: Global, floors: &[Floor]) -> Result<List<Floor>, NoMemory>
-    ensures { IfOk result (λ made. made ≡ floors.now) }
-{
-    let mut made = List::new(alloc);
-    for floor in floors {
-        made.push(copied_floor(alloc, floor)?)?;
-    }
-    Ok(made)
-}
-
-// A copy of a beta vector.
-fn copied_betas(alloc: Global, betas: &[Coeff]) -> Result<List<Coeff>, NoMemory>
-    ensures { IfOk result (λ made. made ≡ betas.now) }
-{
-    let mut made = List::new(alloc);
-    for beta in betas {
-        made.push(*beta)?;
-    }
-    Ok(made)
-}
-
 /// The betas and levels of `old` over the floors of `now`, which begin with those of `old`.
 pub fn mixed_schedule(alloc: Global, old: &Schedule, now: &Schedule) -> Result<Schedule, NoMemory>
     ensures { IfOk result (λ made. made ≡ mixed old.now now.now) }
@@ -81,6 +43,6 @@ pub fn mixed_schedule(alloc: Global, old: &Schedule, now: &Schedule) -> Result<S
     Ok(Schedule {
         floors: copied_floors(alloc, now.floors.as_slice())?,
         levels: padded_values(alloc, old.levels.as_slice(), now.floors.len())?,
-        betas: copied_betas(alloc, old.betas.as_slice())?,
+        betas: copied_coeffs(alloc, old.betas.as_slice())?,
     })
 }
