@@ -2,6 +2,7 @@
 use Rattle.std.proofs.Common.{◌≡◌, ◌≢◌, ℕ, zero, suc, ◌+◌, ◌-◌, ◌<◌, ◌≤◌, ◌^◌, nat_le, min, true, false, if◌then◌else◌, inl, inr, List, [], ◌∷◌, ◌++◌, length, take, map, refl, sym, ◌∙◌, ap, subst, arith, append_assoc}
 use Rattle.std.specs.List.{range_with_len, flat_map}
 use Rattle.std.proofs.lemmas.Bool.{leb-true, leb-false}
+use Rattle.suite_base.specs.Limits.{max_levels}
 use Rattle.beta_tree.specs.Answers.{fuse_answer}
 use Rattle.beta_tree.proofs.Places.{bool_tells, same_yes, same_no}
 use Rattle.beta_trails.specs.Trails.{Step, zeros, next, trail, trail_end, agreement, ranked, Agreeing, AllBelow}
@@ -204,15 +205,15 @@ capped_none : (steps : List Step) → capped 0 steps ≡ map (λ l. (0, l)) (len
 capped_none [] = refl
 capped_none ((a, l) ∷ more) = let e : min 0 a ≡ 0 = omega arith in ap (λ z. (z, l) ∷ capped 0 more) e ∙ ap (λ t. (0, l) ∷ t) (capped_none more)
 
-pub capped_all : (steps : List Step) → AllBelow 25 steps → capped 24 steps ≡ steps
+pub capped_all : (steps : List Step) → AllBelow (max_levels + 1) steps → capped max_levels steps ≡ steps
 capped_all [] b = refl
-capped_all ((a, l) ∷ more) (h, b) = let e : min 24 a ≡ a = omega arith in ap (λ z. (z, l) ∷ capped 24 more) e ∙ ap (λ t. (a, l) ∷ t) (capped_all more b)
+capped_all ((a, l) ∷ more) (h, b) = let e : min max_levels a ≡ a = omega arith in ap (λ z. (z, l) ∷ capped max_levels more) e ∙ ap (λ t. (a, l) ∷ t) (capped_all more b)
 
 pub fuses_lead : FusesLead
 fuses_lead m steps some few g b =
     let start : trail (zeros m) (capped 0 steps) ≡ ranked 0 (m ∷ lengths_of steps) = ap (trail (zeros m)) (capped_none steps) ∙ apart_is_ranked m (lengths_of steps) some in
-    let end : trail (zeros m) (capped 24 steps) ≡ trail (zeros m) steps = ap (trail (zeros m)) (capped_all steps b) in
+    let end : trail (zeros m) (capped max_levels steps) ≡ trail (zeros m) steps = ap (trail (zeros m)) (capped_all steps b) in
     subst (λ V. VectorsLead (fuses V) (ranked 0 (m ∷ lengths_of steps)) (trail (zeros m) steps)) (sym (first_behind (zeros m) steps))
     (subst (λ V. VectorsLead (fuses (zeros m ∷ behind (zeros m) steps)) V (trail (zeros m) steps)) start
     (subst (λ V. VectorsLead (fuses (zeros m ∷ behind (zeros m) steps)) (trail (zeros m) (capped 0 steps)) V) end
-    (passes 24 0 m steps some few g)))
+    (passes max_levels 0 m steps some few g)))

@@ -1,6 +1,7 @@
 -- The fissions and the reorder as commands.
 use Rattle.std.proofs.Common.{◌≡◌, ◌≢◌, pos, ℕ, zero, suc, ◌+◌, ◌-◌, ◌<◌, ◌≤◌, if◌then◌else◌, inl, inr, List, [], ◌∷◌, length, map, refl, sym, ◌∙◌, ap, subst, arith, eq-eqb}
 use Rattle.std.specs.List.{range_with_len}
+use Rattle.suite_base.specs.Limits.{max_levels}
 use Rattle.beta_tree.specs.Edits.{fissioned, place_of, same_vector}
 use Rattle.beta_tree.specs.Answers.{fission_answer, reorder_answer}
 use Rattle.beta_tree.proofs.Places.{bool_tells, same_no}
@@ -23,11 +24,11 @@ splits_as_commands (P ∷ loops) V W (ok, r) =
 
 pub fissions_lead : FissionsLead
 fissions_lead m steps some few g b =
-    splits_as_commands (all_splits 24 (trail (zeros m) steps)) (trail (zeros m) steps) (ranked 0 (m ∷ lengths_of steps)) (splits_leave_alone 24 m steps some few g b)
+    splits_as_commands (all_splits max_levels (trail (zeros m) steps)) (trail (zeros m) steps) (ranked 0 (m ∷ lengths_of steps)) (splits_leave_alone max_levels m steps some few g b)
 
 -- an order that lists the numbers as they are
 
-place_in_range : (n s k : ℕ) → k < n → place_of (s + k) (range_with_len s n) ≡ k
+pub place_in_range : (n s k : ℕ) → k < n → place_of (s + k) (range_with_len s n) ≡ k
 place_in_range zero s k h = absurd (omega arith)
 place_in_range (suc n) s zero h = let e : s ≡ s + 0 = omega arith in rw (eq-eqb s (s + 0) e) refl
 place_in_range (suc n) s (suc k) h =

@@ -2,6 +2,7 @@
 use Rattle.std.proofs.Common.{◌≡◌, pos, ℕ, zero, suc, ◌+◌, ◌-◌, ◌<◌, ◌≤◌, ◌^◌, nat_lt, nat_le, min, true, false, if◌then◌else◌, inl, inr, Some, None, Ok, List, [], ◌∷◌, ◌++◌, length, take, map, refl, sym, ◌∙◌, ap, subst, arith, append_assoc, append-nil}
 use Rattle.std.proofs.lemmas.Bool.{leb-true, leb-false, ltb-true, ltb-false}
 use Rattle.std.proofs.lemmas.List.{take_more}
+use Rattle.suite_base.specs.Limits.{max_levels}
 use Rattle.beta_tree.specs.Edits.{fissioned}
 use Rattle.beta_tree.specs.Answers.{fission_answer}
 use Rattle.beta_tree.proofs.Places.{bool_tells}
@@ -163,11 +164,11 @@ all_are (suc k) m steps some few g =
     ap (λ z. splits (length V) (suc k) V ++ all_splits k z) p.left
     ∙ (ap (λ z. z ++ all_splits k (trail (zeros m) (capped k steps))) p.loops_are ∙ ap (λ z. loops ++ z) (all_are k m steps some few g))
 
-trail_read : (m : ℕ) (steps : List Step) → 0 < m → length steps + 1 < 2 ^ 32 → Agreeing m steps → AllBelow 25 steps → fissions (trail (zeros m) steps) ≡ fissions_of (trail (zeros m) steps)
+trail_read : (m : ℕ) (steps : List Step) → 0 < m → length steps + 1 < 2 ^ 32 → Agreeing m steps → AllBelow (max_levels + 1) steps → fissions (trail (zeros m) steps) ≡ fissions_of (trail (zeros m) steps)
 trail_read m steps some few g b =
     let capped_is = capped_all steps b in
-    let loops : all_splits 24 (trail (zeros m) steps) ≡ all_parted 24 (zeros m) (behind (zeros m) steps) =
-    ap (λ s. all_splits 24 (trail (zeros m) s)) (sym capped_is) ∙ all_are 24 m steps some few g in
+    let loops : all_splits max_levels (trail (zeros m) steps) ≡ all_parted max_levels (zeros m) (behind (zeros m) steps) =
+    ap (λ s. all_splits max_levels (trail (zeros m) s)) (sym capped_is) ∙ all_are max_levels m steps some few g in
     ap as_fissions loops ∙ ap fissions_of (sym (first_behind (zeros m) steps))
 
 no_items : {A : Type 0} (xs : List A) → length xs ≡ 0 → xs ≡ []

@@ -1,6 +1,7 @@
 -- Where each statement stands: its vectors, its ranks in both beta orders, and its pair.
 use Rattle.std.proofs.Common.{◌≡◌, ℕ, zero, suc, ◌+◌, ◌<◌, ◌≤◌, List, [], ◌∷◌, length, refl, sym, ◌∙◌, ap, subst, arith}
 use Rattle.std.proofs.lemmas.List.{length-map}
+use Rattle.suite_base.specs.Limits.{max_levels}
 use Rattle.row_core.specs.Dense.{dense_among, dense_of}
 use Rattle.beta_tree.specs.Vectors.{In, IsTree}
 use Rattle.beta_tree.specs.Edits.{place_of}
@@ -76,7 +77,7 @@ vector_long S i v s valid h g =
     let e = sized_at i l.leaf (drafted S) (start_planted S valid).sized l.stands in
     sym (ap length l.beta) ∙ (e ∙ ap (λ z. length z.schedule.levels + 1) l.statement)
 
-vector_short : (S : ScopData) (u : List ℕ) → IsValid S → In u (vectors_in S) → length u ≤ 25
+vector_short : (S : ScopData) (u : List ℕ) → IsValid S → In u (vectors_in S) → length u ≤ max_levels + 1
 vector_short S u valid i =
     let (k, h) = in_stands u (vectors_in S) i in
     let below = stands_below k u (vectors_in S) h in

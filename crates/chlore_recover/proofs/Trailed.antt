@@ -1,6 +1,7 @@
 -- A tree's vectors in beta order are a trail, and what the script's steps on vectors make of them.
 use Rattle.std.proofs.Common.{◌≡◌, ℕ, suc, ◌+◌, ◌<◌, ◌≤◌, ◌^◌, inl, inr, List, [], ◌∷◌, length, map, refl, sym, ◌∙◌, ap, subst, arith}
 use Rattle.std.proofs.lemmas.List.{length-map}
+use Rattle.suite_base.specs.Limits.{max_levels}
 use Rattle.beta_tree.specs.Vectors.{In, IsTree}
 use Rattle.beta_trails.specs.Trails.{Step, zeros, trail, steps_from, Agreeing, AllBelow, ranked}
 use Rattle.beta_trails.proofs.Sorted.{sorted_tree_is_trail, sorted_tree_agrees}
@@ -12,7 +13,7 @@ use Rattle.chlore_recover.specs.Orders.{Rises}
 use Rattle.chlore_recover.proofs.Orders.{fissions_lead}
 use Rattle.chlore_recover.proofs.Joins.{fuses_lead}
 
--- V is a trail of vectors with 25 entries at most
+-- V is a trail of vectors with `max_levels` + 1 entries at most
 pub record IsTrailed (V : List (List ℕ)) : Type 0 where
   pub first : ℕ
   pub steps : List Step
@@ -20,7 +21,7 @@ pub record IsTrailed (V : List (List ℕ)) : Type 0 where
   pub some : 0 < first
   pub few : length steps + 1 < 2 ^ 32
   pub agreeing : Agreeing first steps
-  pub below : AllBelow 25 steps
+  pub below : AllBelow (max_levels + 1) steps
   pub sizes : first ∷ lengths_of steps ≡ map length V
 
 sizes_of : (v : List ℕ) (V : List (List ℕ)) → lengths_of (steps_from v V) ≡ map length V
@@ -32,7 +33,7 @@ count_of v [] = refl
 count_of v (w ∷ V) = ap suc (count_of w V)
 
 -- agreements below the lengths of vectors that are short
-short : (v : List ℕ) (V : List (List ℕ)) → Agreeing (length v) (steps_from v V) → ((u : List ℕ) → In u (v ∷ V) → length u ≤ 25) → AllBelow 25 (steps_from v V)
+short : (v : List ℕ) (V : List (List ℕ)) → Agreeing (length v) (steps_from v V) → ((u : List ℕ) → In u (v ∷ V) → length u ≤ max_levels + 1) → AllBelow (max_levels + 1) (steps_from v V)
 short v [] g h = tt
 short v (w ∷ V) (a, b, g) h = (let l = h v (inl refl) in omega arith, short w V g (λ u i. h u (inr i)))
 
@@ -40,7 +41,7 @@ filled_first : (v : List ℕ) (V : List (List ℕ)) → IsTree (v ∷ V) → 0 <
 filled_first [] V t = absurd (t.filled (inl refl))
 filled_first (x ∷ v) V t = omega arith
 
-pub trailed : (V : List (List ℕ)) → 0 < length V → IsTree V → Rises V → ((u : List ℕ) → In u V → length u ≤ 25) → IsTrailed V
+pub trailed : (V : List (List ℕ)) → 0 < length V → IsTree V → Rises V → ((u : List ℕ) → In u V → length u ≤ max_levels + 1) → IsTrailed V
 trailed [] l t r h = absurd (omega arith)
 trailed (v ∷ V) l t r h =
     let good : Agreeing (length v) (steps_from v V) = sorted_tree_agrees v V r in

@@ -1,5 +1,6 @@
 -- The fissions of the script, read off the dense vectors of the original in beta order and how far neighbours agree.
 use Rattle.std.specs.Prelude.{◌≡◌, pos, ℕ, zero, suc, ◌+◌, ◌-◌, nat_le, if◌then◌else◌, List, [], ◌∷◌, ◌++◌, map, take}
+use Rattle.suite_base.specs.Limits.{max_levels}
 use Rattle.beta_trails.specs.Trails.{agreement}
 use Rattle.clay_script.specs.declared.commands.Command.{Command}
 use Rattle.clay_script.specs.declared.commands.Command.TheVariants.{Fission, Fuse}
@@ -39,7 +40,7 @@ fused_between n common w = if nat_le n common then Fuse (as_prefix (take n w)) �
 -- the fissions of vectors in beta order
 abbrev pub fissions_of : List (List ℕ) → List Command
 fissions_of [] = []
-fissions_of (v ∷ V) = as_fissions (all_parted 24 v V)
+fissions_of (v ∷ V) = as_fissions (all_parted max_levels v V)
 
 -- for a valid SCoP, these are the script's fissions
 abbrev pub FissionsAreRead : Type 0

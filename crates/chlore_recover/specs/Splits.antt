@@ -1,5 +1,6 @@
 -- What the fissions of the script's first step, and the fuses of its last, do to vectors in beta order.
 use Rattle.std.specs.Prelude.{◌≡◌, ℕ, true, ◌+◌, ◌<◌, ◌^◌, Some, None, Ok, List, [], ◌∷◌, ◌++◌, length, map}
+use Rattle.suite_base.specs.Limits.{max_levels}
 use Rattle.beta_tree.specs.Edits.{fissioned, is_permutation_of}
 use Rattle.beta_tree.specs.Answers.{fission_answer}
 use Rattle.beta_trails.specs.Trails.{Step, zeros, trail, ranked, Agreeing, AllBelow}
@@ -41,16 +42,16 @@ VectorsLead (command ∷ commands) V W =
     (U : List (List ℕ)) × IsVectorCommand command × (are_natural (prefix_of command) ≡ true) × (vector_answer command (prefix_in command) V ≡ Ok U)
     × VectorsLead commands U W
 
--- the script's fuses lead from vectors that stand alone to the target's, whose neighbours agree in 24 entries at most
+-- the script's fuses lead from vectors that stand alone to the target's, whose neighbours agree in `max_levels` entries at most
 abbrev pub FusesLead : Type 0
 FusesLead =
-    (m : ℕ) (steps : List Step) → 0 < m → length steps + 1 < 2 ^ 32 → Agreeing m steps → AllBelow 25 steps
+    (m : ℕ) (steps : List Step) → 0 < m → length steps + 1 < 2 ^ 32 → Agreeing m steps → AllBelow (max_levels + 1) steps
     → VectorsLead (fuses (trail (zeros m) steps)) (ranked 0 (m ∷ lengths_of steps)) (trail (zeros m) steps)
 
--- the script's fissions lead from vectors that agree in 24 entries at most to vectors that stand alone
+-- the script's fissions lead from vectors that agree in `max_levels` entries at most to vectors that stand alone
 abbrev pub FissionsLead : Type 0
 FissionsLead =
-    (m : ℕ) (steps : List Step) → 0 < m → length steps + 1 < 2 ^ 32 → Agreeing m steps → AllBelow 25 steps
+    (m : ℕ) (steps : List Step) → 0 < m → length steps + 1 < 2 ^ 32 → Agreeing m steps → AllBelow (max_levels + 1) steps
     → VectorsLead (fissions (trail (zeros m) steps)) (trail (zeros m) steps) (ranked 0 (m ∷ lengths_of steps))
 
 -- the script's reorder leads from vectors that stand alone to those that stand at their ranks' places in the order

@@ -1,6 +1,7 @@
 -- The whole script: fissions until each statement stands alone, each statement's levels, a reorder, and fuses.
 use Rattle.std.specs.Prelude.{◌≡◌, ◌≤◌, ℤ, pos, ℕ, zero, suc, ◌+◌, nat_lt, nat_le, Bool, true, false, if◌then◌else◌, ◌&&◌, ◌||◌, ◌==◌, Option, Some, None, List, [], ◌∷◌, ◌++◌, length, map, take}
 use Rattle.std.specs.List.{range_with_len, flat_map}
+use Rattle.suite_base.specs.Limits.{max_levels}
 use Rattle.beta_tree.specs.Vectors.{children_of, dense_of}
 use Rattle.beta_tree.specs.Edits.{fissioned, place_of, same_vector}
 use Rattle.beta_trails.specs.Trails.{agreement}
@@ -66,7 +67,7 @@ as_prefix P = map (λ b. pos b) P
 
 -- the fissions that leave each of these vectors, in beta order, alone
 abbrev pub fissions : List (List ℕ) → List Command
-fissions V = map (λ P. Fission (as_prefix P) (pos 1)) (all_splits 24 V)
+fissions V = map (λ P. Fission (as_prefix P) (pos 1)) (all_splits max_levels V)
 
 -- the levels of the statement at a place
 abbrev pub levels_in : ScopData → ℕ → List Affine
@@ -93,7 +94,7 @@ fuses_of_length n v (w ∷ W) = (if nat_le n (agreement v w) then Fuse (as_prefi
 -- the fuses that make these vectors, in beta order, of vectors that stand alone
 abbrev pub fuses : List (List ℕ) → List Command
 fuses [] = []
-fuses (v ∷ V) = flat_map (λ n. fuses_of_length n v V) (range_with_len 1 24)
+fuses (v ∷ V) = flat_map (λ n. fuses_of_length n v V) (range_with_len 1 max_levels)
 
 -- the script that turns the original's schedules into the target's
 abbrev pub strategy : ScopData → ScopData → List Command

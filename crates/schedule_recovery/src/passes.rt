@@ -2,7 +2,7 @@
 //! dense vectors in beta order and how far neighbours agree.
 
 ghost use Rattle.std.specs.Prelude.{◌≡◌, ◌++◌, ◌∷◌, ◌+◌, ◌-◌, ◌≤◌, ◌<◌, ◌^◌, length, OnOk, IfErr};
-ghost use Rattle.suite_base.specs.Limits.{max_commands, max_statements};
+ghost use Rattle.suite_base.specs.Limits.{max_commands, max_levels, max_statements};
 ghost use Rattle.chlore_recover.specs.Orders.{vectors_of};
 ghost use Rattle.chlore_recover.specs.Strategy as strategy;
 ghost use Rattle.schedule_recovery.specs.Agreements.{most_from};
@@ -104,8 +104,8 @@ fn push_all_parts(
     script: &mut Script,
 ) -> Result<(), Fail>
     requires few { length rest.now ≤ max_statements }
-    ensures ok { OnOk result (script.new ≡ script.old ++ pass.as_fissions (pass.all_parted 24 first.now (vectors_of rest.now))) }
-    ensures err { IfErr result (IsTooLong (script.old ++ pass.as_fissions (pass.all_parted 24 first.now (vectors_of rest.now)))) }
+    ensures ok { OnOk result (script.new ≡ script.old ++ pass.as_fissions (pass.all_parted max_levels first.now (vectors_of rest.now))) }
+    ensures err { IfErr result (IsTooLong (script.old ++ pass.as_fissions (pass.all_parted max_levels first.now (vectors_of rest.now)))) }
 {
     let mut size = most_agreement(first, rest).min(MAX_LEVELS);
     while size > 0 {
