@@ -1,15 +1,20 @@
 -- Places in lists, and the levels that they are the places of.
-use Rattle.std.proofs.Common.{◌≡◌, ℤ, pos, ℕ, zero, suc, ◌+◌, ◌<◌, ◌≤◌, ◌==◌, true, false, if◌then◌else◌, Option, Some, None, List, [], ◌∷◌, length, map, drop, get_or, refl, sym, ◌∙◌, ap, subst, arith}
+use Rattle.std.proofs.Common.{◌≡◌, ℤ, pos, ℕ, zero, suc, ◌+◌, ◌<◌, ◌≤◌, ◌==◌, true, false, if◌then◌else◌, not, inl, inr, Option, Some, None, List, [], ◌∷◌, length, map, drop, get_or, refl, sym, ◌∙◌, ap, subst, arith}
 use Rattle.std.specs.Prelude.{slice_get}
+use Rattle.std.specs.List.{list_any, range_with_len}
+use Rattle.std.proofs.Math.Dec.{eqb}
+use Rattle.std.proofs.lemmas.Bool.{eqb-true}
 use Rattle.std.proofs.lemmas.Option.{slice_get_within, slice_get_past, slice_get_read}
+use Rattle.beta_tree.proofs.Places.{bool_tells, same_yes, same_no}
 use Rattle.beta_tree.proofs.Orders.{and_left, and_right}
-use Rattle.beta_tree.specs.Edits.{place_of}
+use Rattle.beta_tree.specs.Edits.{place_of, same_vector}
+use Rattle.beta_tree.proofs.Leaves.{same_vector_yes}
 use Rattle.row_core.specs.Rows.{scale}
 use Rattle.std.proofs.lemmas.List.{drop_all, drop_more}
 use Rattle.beta_trails.specs.Trails.{agreement}
 use Rattle.chlore_recover.specs.Strategy.{is_before}
 use Rattle.scop_data.specs.declared.affines.Affine.{Affine}
-use Rattle.chlore_recover.specs.Triangles.{is_sign, last_value, last_place, end_in_signs, row_ending_at, sign_at}
+use Rattle.chlore_recover.specs.Triangles.{is_sign, last_value, last_place, end_in_signs, differ, row_ending_at, sign_at}
 use Rattle.chlore_recover.specs.Recoverable.{rows_of}
 
 -- what a level found by its place says of the row that ends there
@@ -73,3 +78,63 @@ ends_here i k levels places level e f l is = some_ends i levels level (ap (slice
 
 pub sign_here : (levels : List Affine) (k : ℕ) (level : Affine) (row : List ℤ) (sign : ℤ) → end_in_signs (rows_of levels) ≡ true → k < length levels → level ≡ get_or levels k level → row ≡ level.iterators → sign ≡ last_value row → is_sign sign ≡ true
 sign_here levels k level row sign h l is r s = ap is_sign (s ∙ ap last_value r) ∙ sign_there levels k level h (slice_get_read levels (length levels) k level refl l is)
+
+-- the level that is found by a place ends there
+
+abbrev pub IsFoundAt : ℕ → Option Affine → Type 0
+IsFoundAt i None = Unit {0}
+IsFoundAt i (Some level) = last_place level.iterators ≡ i
+
+found_at : (i : ℕ) (levels : List Affine) → IsFoundAt i (slice_get levels (place_of i (map last_place (rows_of levels))))
+found_at i [] = tt
+found_at i (x ∷ levels) =
+    elim (last_place x.iterators == i) as (λ t. (last_place x.iterators == i) ≡ t → IsFoundAt i (slice_get (x ∷ levels) (if t then 0 else place_of i (map last_place (rows_of levels)) + 1))) [
+      | true ↦ λ e. eqb-true (last_place x.iterators) i e
+      | false ↦ λ e.
+          let up : suc (place_of i (map last_place (rows_of levels))) ≡ place_of i (map last_place (rows_of levels)) + 1 = omega arith in
+          subst (λ k. IsFoundAt i (slice_get (x ∷ levels) k)) up (found_at i levels)
+    ] refl
+
+pub ends_there : (i k : ℕ) (levels : List Affine) (places : List ℕ) (level : Affine) (row : List ℤ) → places ≡ map last_place (rows_of levels) → k ≡ place_of i places → k < length levels → level ≡ get_or levels k level → row ≡ level.iterators → i ≡ last_place row
+ends_there i k levels places level row e f l is r =
+    let found : slice_get levels (place_of i (map last_place (rows_of levels))) ≡ Some level = ap (slice_get levels) (sym (f ∙ ap (place_of i) e)) ∙ slice_get_read levels (length levels) k level refl l is in
+    sym (subst (IsFoundAt i) found (found_at i levels)) ∙ ap last_place (sym r)
+
+-- in a list of numbers that differ each stands at its place
+
+other_entry : (x : ℕ) (xs : List ℕ) (k y : ℕ) → list_any (eqb x) xs ≡ false → k < length xs → y ≡ get_or xs k 0 → (x == y) ≡ false
+other_entry x [] k y f l is = absurd (omega arith)
+other_entry x (z ∷ xs) zero y f l is =
+    elim (x == z) as (λ t. (x == z) ≡ t → (x == y) ≡ false) [
+      | true ↦ λ e. absurd (let g : list_any (eqb x) (z ∷ xs) ≡ true = rw e refl in cc)
+      | false ↦ λ e. ap (λ w. x == w) is ∙ e
+    ] refl
+other_entry x (z ∷ xs) (suc k) y f l is =
+    elim (x == z) as (λ t. (x == z) ≡ t → (x == y) ≡ false) [
+      | true ↦ λ e. absurd (let g : list_any (eqb x) (z ∷ xs) ≡ true = rw e refl in cc)
+      | false ↦ λ e. other_entry x xs k y (let g : list_any (eqb x) (z ∷ xs) ≡ list_any (eqb x) xs = rw e refl in sym g ∙ f) (omega arith) is
+    ] refl
+
+pub own_place : (xs : List ℕ) (k y : ℕ) → differ xs ≡ true → k < length xs → y ≡ get_or xs k 0 → k ≡ place_of y xs
+own_place [] k y h l is = absurd (omega arith)
+own_place (x ∷ xs) zero y h l is = rw (ap (λ w. x == w) is ∙ same_yes x) refl
+own_place (x ∷ xs) (suc k) y h l is =
+    let fresh : list_any (eqb x) xs ≡ false = elim (bool_tells (list_any (eqb x) xs)) [
+      | inl t ↦ absurd (let g : not true ≡ true = subst (λ z. not z ≡ true) t (and_left (not (list_any (eqb x) xs)) (differ xs) h) in cc)
+      | inr f ↦ f
+    ] in
+    let more : k ≡ place_of y xs = own_place xs k y (and_right (not (list_any (eqb x) xs)) (differ xs) h) (omega arith) is in
+    rw (other_entry x xs k y fresh (omega arith) is) (omega arith)
+
+-- numbers in order differ
+
+range_fresh : (n t s : ℕ) → s < t → list_any (eqb s) (range_with_len t n) ≡ false
+range_fresh zero t s l = refl
+range_fresh (suc n) t s l = rw (same_no s t (λ e. omega arith)) (range_fresh n (t + 1) s (omega arith))
+
+range_differs : (n s : ℕ) → differ (range_with_len s n) ≡ true
+range_differs zero s = refl
+range_differs (suc n) s = rw (range_fresh n (s + 1) s (omega arith)) (range_differs n (s + 1))
+
+pub in_order_differs : (xs : List ℕ) → same_vector xs (range_with_len 0 (length xs)) ≡ true → true ≡ differ xs
+in_order_differs xs h = sym (ap differ (same_vector_yes xs (range_with_len 0 (length xs)) h) ∙ range_differs (length xs) 0)

@@ -1,13 +1,15 @@
 -- One turn of each loop over the levels of a statement: the command for one level, and those that are still to come.
-use Rattle.std.proofs.Common.{◌≡◌, ℤ, ◌*ℤ◌, ℕ, ◌+◌, ◌-◌, ◌<◌, ◌==◌, true, false, List, ◌∷◌, ◌++◌, length, drop, get_or, refl, sym, ◌∙◌, ap}
+use Rattle.std.proofs.Common.{◌≡◌, ℤ, ◌*ℤ◌, ℕ, zero, suc, ◌+◌, ◌-◌, ◌<◌, ◌==◌, true, false, List, [], ◌∷◌, ◌++◌, length, drop, get_or, refl, sym, ◌∙◌, ap, subst, arith, append-nil}
 use Rattle.std.specs.List.{range_with_len}
 use Rattle.std.proofs.lemmas.List.{drop_more}
 use Rattle.row_core.specs.Rows.{scale}
 use Rattle.beta_tree.specs.Edits.{place_of}
+use Rattle.beta_tree.proofs.Places.{same_yes}
 use Rattle.scop_data.specs.declared.affines.Affine.{Affine}
 use Rattle.clay_script.specs.declared.commands.Command.{Command}
 use Rattle.chlore_recover.specs.Triangles.{last_value, sign_at}
 use Rattle.chlore_recover.specs.Recoverable.{rows_of}
+use Rattle.chlore_recover.proofs.Orders.{place_in_range}
 use Rattle.chlore_recover.specs.LevelScripts.{reverse_where, first_reverses, row_skews, second_reverses, interchanges, shifts}
 use Rattle.schedule_recovery.specs.Steps.{skew_where, interchange_where, standing_after, shift_where}
 use Rattle.schedule_recovery.proofs.Pieces.{stepped, range_more}
@@ -23,12 +25,11 @@ reverse_more p k levels form sign old all now l is s e h =
     stepped old (reverse_where sign p (k + 1)) rest all now e
     (ap (λ z. old ++ (reverse_where z p (k + 1) ++ rest)) s ∙ (ap (λ z. old ++ first_reverses p (k + 1) (rows_of z)) (sym (left_is levels k form l is)) ∙ h))
 
-pub skew_more : (p : List ℤ) (level k : ℕ) (sign x factor : ℤ) (factors : List ℤ) (old all now : List Command) → k < length factors → x ≡ get_or factors k x → factor ≡ sign *ℤ x
-    → now ≡ old ++ skew_where p level (k + 1) factor → old ++ row_skews p level (k + 1) (scale sign (drop k factors)) ≡ all → now ++ row_skews p level (k + 1 + 1) (scale sign (drop (k + 1) factors)) ≡ all
-skew_more p level k sign x factor factors old all now l is s e h =
+pub skew_more : (p : List ℤ) (level k : ℕ) (sign x : ℤ) (factors : List ℤ) (old all now : List Command) → k < length factors → x ≡ get_or factors k x
+    → now ≡ old ++ skew_where p level (k + 1) (sign *ℤ x) → old ++ row_skews p level (k + 1) (scale sign (drop k factors)) ≡ all → now ++ row_skews p level (k + 1 + 1) (scale sign (drop (k + 1) factors)) ≡ all
+skew_more p level k sign x factors old all now l is e h =
     let rest : List Command = row_skews p level (k + 1 + 1) (scale sign (drop (k + 1) factors)) in
-    stepped old (skew_where p level (k + 1) factor) rest all now e
-    (ap (λ z. old ++ (skew_where p level (k + 1) z ++ rest)) s ∙ (ap (λ z. old ++ row_skews p level (k + 1) (scale sign z)) (sym (left_is factors k x l is)) ∙ h))
+    stepped old (skew_where p level (k + 1) (sign *ℤ x)) rest all now e (ap (λ z. old ++ row_skews p level (k + 1) (scale sign z)) (sym (left_is factors k x l is)) ∙ h)
 
 pub second_more : (p : List ℤ) (k d : ℕ) (rows : List (List ℤ)) (sign : ℤ) (old all now : List Command) → k < d → sign ≡ sign_at k rows → now ≡ old ++ reverse_where sign p (k + 1)
     → old ++ second_reverses p (range_with_len k (d - k)) rows ≡ all → now ++ second_reverses p (range_with_len (k + 1) (d - (k + 1))) rows ≡ all
@@ -57,3 +58,19 @@ pub shift_more : (p : List ℤ) (k : ℕ) (levels : List Affine) (form : Affine)
 shift_more p k levels form old all now l is e h =
     let rest : List Command = shifts p (k + 1 + 1) (drop (k + 1) levels) in
     stepped old (shift_where p (k + 1) form) rest all now e (ap (λ z. old ++ shifts p (k + 1) z) (sym (left_is levels k form l is)) ∙ h)
+
+-- rows that are in order need no interchange
+
+none_from : (p : List ℤ) (n k d : ℕ) → k + n ≡ d → interchanges p k (range_with_len 0 d) (range_with_len k n) ≡ []
+none_from p zero k d e = refl
+none_from p (suc n) k d e =
+    let from : 0 + k ≡ k = omega arith in
+    let here : place_of k (range_with_len 0 d) ≡ k = subst (λ y. place_of y (range_with_len 0 d) ≡ k) from (place_in_range d 0 k (omega arith)) in
+    let test : (place_of k (range_with_len 0 d) == k) ≡ true = ap (λ z. z == k) here ∙ same_yes k in
+    rw test (none_from p n (k + 1) d (omega arith))
+
+pub no_interchanges : (p : List ℤ) (numbers : List ℕ) (old : List Command) → numbers ≡ range_with_len 0 (length numbers) → old ≡ old ++ interchanges p 0 (range_with_len 0 (length numbers)) numbers
+no_interchanges p numbers old e =
+    let none : interchanges p 0 (range_with_len 0 (length numbers)) numbers ≡ [] =
+    subst (λ z. interchanges p 0 (range_with_len 0 (length numbers)) z ≡ []) (sym e) (none_from p (length numbers) 0 (length numbers) (omega arith)) in
+    sym (append-nil old) ∙ ap (λ z. old ++ z) (sym none)

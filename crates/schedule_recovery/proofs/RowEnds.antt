@@ -1,9 +1,20 @@
 -- The last entry that isn't 0 of a row that is walked from its end.
-use Rattle.std.proofs.Common.{◌≡◌, ℤ, pos, ℕ, ◌+◌, ◌-◌, ◌<◌, ◌≤◌, Bool, true, false, ◌&&◌, List, [], ◌∷◌, ◌++◌, length, take, get_or, refl, sym, ◌∙◌, ap, arith}
+use Rattle.std.proofs.Common.{◌≡◌, ℤ, pos, ℕ, suc, ◌+◌, ◌-◌, ◌<◌, ◌≤◌, Bool, true, false, if◌then◌else◌, ◌&&◌, inl, inr, List, [], ◌∷◌, ◌++◌, length, take, get_or, refl, sym, ◌∙◌, ap, arith}
+use Rattle.std.specs.Prelude.{IsTrue, ◌↔◌}
 use Rattle.std.specs.Ordering.{int_eq}
+use Rattle.std.proofs.lemmas.Bool.Decides.{Decides-int_eq}
 use Rattle.std.proofs.lemmas.List.{length-take-le, take_more}
+use Rattle.beta_tree.proofs.Places.{bool_tells}
 use Rattle.chlore_recover.specs.Triangles.{is_zero, last_place, last_value}
-use Rattle.chlore_recover.proofs.Ends.{int_yes}
+use Rattle.chlore_recover.proofs.Ends.{int_no}
+
+-- a coefficient's test, as a Bool
+pub zero_test : (b : Bool) (x : ℤ) → IsTrue b ↔ (x ≡ pos 0) → int_eq x (pos 0) ≡ b
+zero_test b x h =
+    elim (bool_tells b) [
+      | inl t ↦ (Decides-int_eq x (pos 0)).1 (h.0 t) ∙ sym t
+      | inr f ↦ int_no x (pos 0) (λ e. cc (h.1 e, f)) ∙ sym f
+    ]
 
 and_true : (b : Bool) → (b && true) ≡ b
 and_true true = refl
@@ -35,14 +46,6 @@ pub place_moves : (row : List ℤ) (z : ℤ) → int_eq z (pos 0) ≡ false → 
 place_moves [] z e = refl
 place_moves (x ∷ row) z e = rw (no_zero row z e, place_moves row z e) (omega arith)
 
-pub value_stays : (row : List ℤ) (z : ℤ) → int_eq z (pos 0) ≡ true → last_value (row ++ z ∷ []) ≡ last_value row
-value_stays [] z e = int_yes z (pos 0) e
-value_stays (x ∷ row) z e = rw (still_zero row z e, value_stays row z e) refl
-
-pub value_moves : (row : List ℤ) (z : ℤ) → int_eq z (pos 0) ≡ false → last_value (row ++ z ∷ []) ≡ z
-value_moves [] z e = refl
-value_moves (x ∷ row) z e = rw (no_zero row z e, value_moves row z e) refl
-
 cut_more : (left : ℕ) (x : ℤ) (row : List ℤ) → 0 < left → left ≤ length row → x ≡ get_or row (left - 1) x → take left row ≡ take (left - 1) row ++ x ∷ []
 cut_more left x row some l is =
     let up : left ≡ left - 1 + 1 = omega arith in
@@ -61,9 +64,21 @@ pub place_here : (left : ℕ) (x : ℤ) (row : List ℤ) → 0 < left → left �
 place_here left x row some l is f h =
     sym (cut_long left row l) ∙ (sym (place_moves (take (left - 1) row) x f) ∙ (ap last_place (sym (cut_more left x row some l is)) ∙ h))
 
-pub value_before : (left : ℕ) (x : ℤ) (row : List ℤ) → 0 < left → left ≤ length row → x ≡ get_or row (left - 1) x → int_eq x (pos 0) ≡ true → last_value (take left row) ≡ last_value row
-    → last_value (take (left - 1) row) ≡ last_value row
-value_before left x row some l is t h = sym (value_stays (take (left - 1) row) x t) ∙ (ap last_value (sym (cut_more left x row some l is)) ∙ h)
+-- the last entry that isn't 0 stands at its place
+pub value_there : (row : List ℤ) (place : ℕ) (x : ℤ) → place ≡ last_place row → place < length row → x ≡ get_or row place x → x ≡ last_value row
+value_there [] place x e l is = absurd (omega arith)
+value_there (z ∷ row) place x e l is =
+    elim (is_zero row) as (λ t. is_zero row ≡ t → place ≡ (if t then 0 else last_place row + 1) → x ≡ (if t then z else last_value row)) [
+      | true ↦ λ t p. is ∙ ap (λ k. get_or (z ∷ row) k x) p
+      | false ↦ λ t p.
+          let up : place ≡ suc (place - 1) = omega arith in
+          value_there row (place - 1) x (omega arith) (omega arith) (is ∙ ap (λ k. get_or (z ∷ row) k x) up)
+    ] refl e
 
-pub value_here : (left : ℕ) (x : ℤ) (row : List ℤ) → 0 < left → left ≤ length row → x ≡ get_or row (left - 1) x → int_eq x (pos 0) ≡ false → last_value (take left row) ≡ last_value row → x ≡ last_value row
-value_here left x row some l is f h = sym (value_moves (take (left - 1) row) x f) ∙ (ap last_value (sym (cut_more left x row some l is)) ∙ h)
+pub value_past : (row : List ℤ) (place : ℕ) → place ≡ last_place row → length row ≤ place → pos 0 ≡ last_value row
+value_past [] place e l = refl
+value_past (z ∷ row) place e l =
+    elim (is_zero row) as (λ t. is_zero row ≡ t → place ≡ (if t then 0 else last_place row + 1) → pos 0 ≡ (if t then z else last_value row)) [
+      | true ↦ λ t p. absurd (omega arith)
+      | false ↦ λ t p. value_past row (place - 1) (omega arith) (omega arith)
+    ] refl e

@@ -8,10 +8,10 @@ ghost use Rattle.chlore_recover.specs.Refusals as refusal;
 ghost use Rattle.chlore_recover.specs.Triangles as triangle;
 
 use crate::lookups::differ;
-use crate::rows::{is_sign, is_signed_unit, is_zero, last_places, last_value};
+use crate::rows::{is_sign, is_signed_unit, is_zero, last_place, value_ending_at};
 use scop_core::{Affine, Scop, Statement};
 use std::alloc::Global;
-use suite_base::{Fail, NoMemory, Refusal};
+use suite_base::{Fail, List, NoMemory, Refusal};
 
 // Whether a level is the iterator at this place or its negative, alone.
 fn is_clans_level(k: usize, level: &Affine) -> bool
@@ -51,18 +51,6 @@ fn has_clans_form(statement: &Statement) -> bool
     are_clans_levels(statement.schedule.levels.as_slice())
 }
 
-// Whether each level's last coefficient of an iterator that isn't 0 is 1 or -1.
-fn end_in_signs(levels: &[Affine]) -> bool
-    ensures { result ≡ triangle.end_in_signs (rows_of levels.now) }
-{
-    for level in levels {
-        if !is_sign(last_value(level.iterators())) {
-            return false;
-        }
-    }
-    true
-}
-
 // Whether these are so many levels that end in 1 or -1, at iterators that differ.
 fn ends_apart(alloc: Global, count: usize, levels: &[Affine]) -> Result<bool, NoMemory>
     ensures { IfOk result (λ apart. apart ≡ end_apart count (rows_of levels.now)) }
@@ -70,10 +58,15 @@ fn ends_apart(alloc: Global, count: usize, levels: &[Affine]) -> Result<bool, No
     if levels.len() != count {
         return Ok(false);
     }
-    if !end_in_signs(levels) {
-        return Ok(false);
+    let mut places = List::with_capacity(alloc, count)?;
+    for level in levels {
+        let row = level.iterators();
+        let place = last_place(row);
+        if !is_sign(value_ending_at(place, row)) {
+            return Ok(false);
+        }
+        places.push(place)?;
     }
-    let places = last_places(alloc, levels)?;
     Ok(differ(places.as_slice()))
 }
 

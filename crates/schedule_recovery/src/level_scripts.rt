@@ -8,13 +8,11 @@ ghost use Rattle.chlore_recover.specs.LevelScripts as forms;
 ghost use Rattle.chlore_recover.specs.Recoverable.{rows_of, triangle_of};
 ghost use Rattle.chlore_recover.specs.Triangles as triangle;
 ghost use Rattle.schedule_recovery.specs.Lengths.{EndApart};
-ghost use Rattle.schedule_recovery.specs.Ranks.{AreRanks};
 ghost use Rattle.schedule_recovery.specs.Steps as step;
 
-use crate::lookups::place_of;
+use crate::lookups::{is_in_order, own_place_of, place_of};
 use crate::pushes::{push_interchange, push_reverse, push_shift, push_skew};
-use crate::rank_tables::{rank_of, ranks_of};
-use crate::rows::{is_zero, last_places, last_value};
+use crate::rows::{is_zero, last_places, last_value, value_ending_at};
 use clay_script::Script;
 use row_core::Coeff;
 use scop_core::Affine;
@@ -65,21 +63,23 @@ fn signed(sign: Coeff, value: Coeff) -> Coeff
     }
 }
 
-// Appends the skew of a level by another one, where the factor isn't 0.
+// Appends the skew of a level by another one, by a sign times a coefficient that isn't 0.
 fn push_skew_where(
     alloc: Global,
     number: u32,
     level: usize,
     other: usize,
-    factor: Coeff,
+    sign: Coeff,
+    value: Coeff,
     script: &mut Script,
 ) -> Result<(), NoMemory>
-    ensures { OnOk result (script.new ≡ script.old ++ step.skew_where (pos number ∷ []) level other factor) }
+    requires { triangle.is_sign sign ≡ true }
+    ensures { OnOk result (script.new ≡ script.old ++ step.skew_where (pos number ∷ []) level other (sign *ℤ value)) }
 {
-    if factor.value() == 0 {
+    if value.is_zero() {
         return Ok(());
     }
-    push_skew(alloc, number, level, other, factor, script)
+    push_skew(alloc, number, level, other, signed(sign, value), script)
 }
 
 // Appends the skews of a level by the levels before it, with these factors times a sign.
@@ -95,8 +95,7 @@ fn push_row_skews(
     ensures { OnOk result (script.new ≡ script.old ++ forms.row_skews (pos number ∷ []) level 1 (scale sign factors.now)) }
 {
     for k in 0..factors.len() {
-        let factor = signed(sign, factors[k]);
-        push_skew_where(alloc, number, level, k + 1, factor, script)?;
+        push_skew_where(alloc, number, level, k + 1, sign, factors[k], script)?;
     }
     Ok(())
 }
@@ -108,23 +107,22 @@ fn push_skews_at(
     place: usize,
     levels: &[Affine],
     places: &[usize],
-    ranks: &[usize],
     script: &mut Script,
 ) -> Result<(), NoMemory>
     requires small { place < length levels.now }
     requires signs { triangle.end_in_signs (rows_of levels.now) ≡ true }
     requires places { places.now ≡ map triangle.last_place (rows_of levels.now) }
-    requires ranks { AreRanks places.now ranks.now }
+    requires apart { triangle.differ places.now ≡ true }
     ensures { let row = triangle.row_ending_at place (rows_of levels.now) in
         OnOk result (script.new ≡ script.old ++ forms.row_skews (pos number ∷ []) (place + 1) 1 (take place row)) }
 {
-    let k = rank_of(place, places, ranks);
+    let k = own_place_of(place, places);
     if k >= levels.len() {
         return Ok(());
     }
     let row = levels[k].iterators();
     let end = place.min(row.len());
-    let sign = last_value(row);
+    let sign = value_ending_at(place, row);
     push_row_skews(alloc, number, place + 1, sign, &row[..end], script)?;
     Ok(())
 }
@@ -135,34 +133,33 @@ fn push_skews(
     number: u32,
     levels: &[Affine],
     places: &[usize],
-    ranks: &[usize],
     script: &mut Script,
 ) -> Result<(), NoMemory>
     requires signs { triangle.end_in_signs (rows_of levels.now) ≡ true }
     requires places { places.now ≡ map triangle.last_place (rows_of levels.now) }
-    requires ranks { AreRanks places.now ranks.now }
+    requires apart { triangle.differ places.now ≡ true }
     ensures { let rows = triangle_of (length levels.now) (rows_of levels.now) in
         OnOk result (script.new ≡ script.old ++ forms.skews (pos number ∷ []) 1 rows) }
 {
     let mut left = levels.len();
     while left > 0 {
         left -= 1;
-        push_skews_at(alloc, number, left, levels, places, ranks, script)?;
+        push_skews_at(alloc, number, left, levels, places, script)?;
     }
     Ok(())
 }
 
 // The sign of the row that ends at this place, and 0 where none does.
-fn sign_at(place: usize, levels: &[Affine], places: &[usize], ranks: &[usize]) -> Coeff
+fn sign_at(place: usize, levels: &[Affine], places: &[usize]) -> Coeff
     requires places { places.now ≡ map triangle.last_place (rows_of levels.now) }
-    requires ranks { AreRanks places.now ranks.now }
+    requires apart { triangle.differ places.now ≡ true }
     ensures { result ≡ triangle.sign_at place (rows_of levels.now) }
 {
-    let k = rank_of(place, places, ranks);
+    let k = own_place_of(place, places);
     if k >= levels.len() {
         return Coeff::ZERO;
     }
-    last_value(levels[k].iterators())
+    value_ending_at(place, levels[k].iterators())
 }
 
 // Appends a reverse of each iterator for which the row that ends there is negative.
@@ -171,16 +168,15 @@ fn push_second_reverses(
     number: u32,
     levels: &[Affine],
     places: &[usize],
-    ranks: &[usize],
     script: &mut Script,
 ) -> Result<(), NoMemory>
     requires places { places.now ≡ map triangle.last_place (rows_of levels.now) }
-    requires ranks { AreRanks places.now ranks.now }
+    requires apart { triangle.differ places.now ≡ true }
     ensures { let all = range_with_len 0 (length levels.now) in
         OnOk result (script.new ≡ script.old ++ forms.second_reverses (pos number ∷ []) all (rows_of levels.now)) }
 {
     for k in 0..levels.len() {
-        let sign = sign_at(k, levels, places, ranks);
+        let sign = sign_at(k, levels, places);
         push_reverse_where(alloc, number, k + 1, sign, script)?;
     }
     Ok(())
@@ -231,6 +227,9 @@ fn push_interchanges(
     ensures { let all = range_with_len 0 (length places.now) in
         OnOk result (script.new ≡ script.old ++ forms.interchanges (pos number ∷ []) 0 all places.now) }
 {
+    if is_in_order(places) {
+        return Ok(());
+    }
     let mut standing = numbers_below(alloc, places.len())?;
     for k in 0..places.len() {
         push_interchange_where(alloc, number, k, places[k], standing.as_mut_slice(), script)?;
@@ -282,24 +281,9 @@ pub fn push_level_script(
     ensures { OnOk result (script.new ≡ script.old ++ forms.level_script (pos number ∷ []) original.now target.now) }
 {
     let places = last_places(alloc, target)?;
-    let ranks = ranks_of(alloc, places.as_slice())?;
     push_first_reverses(alloc, number, original, script)?;
-    push_skews(
-        alloc,
-        number,
-        target,
-        places.as_slice(),
-        ranks.as_slice(),
-        script,
-    )?;
-    push_second_reverses(
-        alloc,
-        number,
-        target,
-        places.as_slice(),
-        ranks.as_slice(),
-        script,
-    )?;
+    push_skews(alloc, number, target, places.as_slice(), script)?;
+    push_second_reverses(alloc, number, target, places.as_slice(), script)?;
     push_interchanges(alloc, number, places.as_slice(), script)?;
     push_shifts(alloc, number, target, script)
 }

@@ -1,9 +1,10 @@
 //! Where numbers stand in lists of numbers, and where vectors agree.
 
-ghost use Rattle.std.specs.Prelude.{◌≡◌, ◌≤◌, length};
-ghost use Rattle.std.specs.List.{list_any};
+ghost use Rattle.std.specs.Prelude.{◌≡◌, ◌≤◌, length, true};
+ghost use Rattle.std.specs.List.{list_any, range_with_len};
 ghost use Rattle.std.proofs.Math.Dec.{eqb};
 ghost use Rattle.beta_tree.specs.Edits as edit;
+ghost use Rattle.beta_tree.specs.Edits.{same_vector};
 ghost use Rattle.beta_trails.specs.Trails as trail;
 ghost use Rattle.chlore_recover.specs.Triangles as triangle;
 ghost use Rattle.chlore_recover.specs.Strategy as strategy;
@@ -19,6 +20,30 @@ pub fn place_of(number: usize, list: &[usize]) -> usize
         }
     }
     list.len()
+}
+
+/// The place of a number in a list of numbers that differ, its length where it isn't there. Mostly it is its own place, which is
+/// looked at first.
+pub fn own_place_of(number: usize, list: &[usize]) -> usize
+    requires { triangle.differ list.now ≡ true }
+    ensures { result ≡ edit.place_of number list.now }
+{
+    if number < list.len() && list[number] == number {
+        return number;
+    }
+    place_of(number, list)
+}
+
+/// Whether the numbers are 0, 1 and so on.
+pub fn is_in_order(numbers: &[usize]) -> bool
+    ensures { result ≡ same_vector numbers.now (range_with_len 0 (length numbers.now)) }
+{
+    for k in 0..numbers.len() {
+        if numbers[k] != k {
+            return false;
+        }
+    }
+    true
 }
 
 // Whether a number is in a list.
@@ -37,6 +62,9 @@ fn has(number: usize, list: &[usize]) -> bool
 pub fn differ(list: &[usize]) -> bool
     ensures { result ≡ triangle.differ list.now }
 {
+    if is_in_order(list) {
+        return true;
+    }
     for k in 0..list.len() {
         if has(list[k], &list[k + 1..]) {
             return false;

@@ -7,6 +7,7 @@ ghost use Rattle.beta_tree.specs.Edits.{same_vector};
 ghost use Rattle.chlore_recover.specs.Strategy as strategy;
 
 use crate::beta_orders::Placed;
+use crate::lookups::is_in_order;
 use crate::pushes::push_reorder;
 use crate::rank_tables::{rank_of, ranks_of};
 use clay_script::Script;
@@ -34,18 +35,6 @@ fn order_among(alloc: Global, places: &[usize], target: &[Placed]) -> Result<Lis
         made.push(rank_of(one.place(), places, ranks.as_slice()))?;
     }
     Ok(made)
-}
-
-// Whether the numbers are 0, 1 and so on.
-fn is_in_order(numbers: &[usize]) -> bool
-    ensures { result ≡ same_vector numbers.now (range_with_len 0 (length numbers.now)) }
-{
-    for k in 0..numbers.len() {
-        if numbers[k] != k {
-            return false;
-        }
-    }
-    true
 }
 
 /// Appends the reorder that brings the original's statements into the target's order, where it changes something.

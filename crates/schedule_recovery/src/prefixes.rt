@@ -8,22 +8,29 @@ use row_core::Coeff;
 use std::alloc::Global;
 use suite_base::NoMemory;
 
-/// The prefix with these entries.
-pub fn prefix_of(alloc: Global, entries: &[u32]) -> Result<Vector, NoMemory>
+// The prefix with these entries, with room for so many more.
+fn prefix_with_room(alloc: Global, entries: &[u32], more: usize) -> Result<Vector, NoMemory>
     ensures { IfOk result (λ made. made ≡ as_prefix entries.now) }
 {
-    let mut made = Vector::new(alloc);
+    let mut made = Vector::with_capacity(alloc, entries.len().saturating_add(more))?;
     for entry in entries {
         made.push(Coeff::bounded(*entry as i128))?;
     }
     Ok(made)
 }
 
+/// The prefix with these entries.
+pub fn prefix_of(alloc: Global, entries: &[u32]) -> Result<Vector, NoMemory>
+    ensures { IfOk result (λ made. made ≡ as_prefix entries.now) }
+{
+    prefix_with_room(alloc, entries, 0)
+}
+
 /// The prefix of a loop that is in no other loop.
 pub fn outer_prefix(alloc: Global, number: u32) -> Result<Vector, NoMemory>
     ensures { IfOk result (λ made. made ≡ pos number ∷ []) }
 {
-    let mut made = Vector::new(alloc);
+    let mut made = Vector::with_capacity(alloc, 1)?;
     made.push(Coeff::bounded(number as i128))?;
     Ok(made)
 }
@@ -32,7 +39,7 @@ pub fn outer_prefix(alloc: Global, number: u32) -> Result<Vector, NoMemory>
 pub fn child_prefix(alloc: Global, entries: &[u32], child: u32) -> Result<Vector, NoMemory>
     ensures { IfOk result (λ made. made ≡ as_prefix (entries.now ++ child ∷ [])) }
 {
-    let mut made = prefix_of(alloc, entries)?;
+    let mut made = prefix_with_room(alloc, entries, 1)?;
     made.push(Coeff::bounded(child as i128))?;
     Ok(made)
 }
@@ -41,7 +48,7 @@ pub fn child_prefix(alloc: Global, entries: &[u32], child: u32) -> Result<Vector
 pub fn order_of(alloc: Global, numbers: &[usize]) -> Result<Vector, NoMemory>
     ensures { IfOk result (λ made. made ≡ as_prefix numbers.now) }
 {
-    let mut made = Vector::new(alloc);
+    let mut made = Vector::with_capacity(alloc, numbers.len())?;
     for number in numbers {
         made.push(Coeff::bounded(*number as i128))?;
     }
@@ -52,7 +59,7 @@ pub fn order_of(alloc: Global, numbers: &[usize]) -> Result<Vector, NoMemory>
 pub fn copied(alloc: Global, numbers: &[Coeff]) -> Result<Vector, NoMemory>
     ensures { IfOk result (λ made. made ≡ numbers.now) }
 {
-    let mut made = Vector::new(alloc);
+    let mut made = Vector::with_capacity(alloc, numbers.len())?;
     for number in numbers {
         made.push(*number)?;
     }

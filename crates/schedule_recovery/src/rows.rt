@@ -1,7 +1,6 @@
 //! Rows of coefficients: where they end, and where they are 0.
 
-ghost use Rattle.std.specs.Prelude.{◌≡◌, map, pos, IfOk};
-ghost use Rattle.std.specs.Ordering.{int_eq};
+ghost use Rattle.std.specs.Prelude.{◌≡◌, map, IfOk};
 ghost use Rattle.chlore_recover.specs.Recoverable.{rows_of};
 ghost use Rattle.chlore_recover.specs.Refusals as refusal;
 ghost use Rattle.chlore_recover.specs.Triangles as triangle;
@@ -30,13 +29,6 @@ pub fn is_sign(value: Coeff) -> bool
     value.value() == 1 || value.value() == -1
 }
 
-// Whether a number is 0.
-fn is_nothing(value: Coeff) -> bool
-    ensures { result ≡ int_eq value (pos 0) }
-{
-    value.value() == 0
-}
-
 /// The place of the last entry that isn't 0, and 0 where there is none.
 pub fn last_place(row: &[Coeff]) -> usize
     ensures { result ≡ triangle.last_place row.now }
@@ -44,26 +36,30 @@ pub fn last_place(row: &[Coeff]) -> usize
     let mut left = row.len();
     while left > 0 {
         left -= 1;
-        if !is_nothing(row[left]) {
+        if !row[left].is_zero() {
             return left;
         }
     }
     0
 }
 
+/// The last entry that isn't 0, and 0 where there is none, of a row whose last place is known.
+pub fn value_ending_at(place: usize, row: &[Coeff]) -> Coeff
+    requires { place ≡ triangle.last_place row.now }
+    ensures { result ≡ triangle.last_value row.now }
+{
+    if place < row.len() {
+        row[place]
+    } else {
+        Coeff::ZERO
+    }
+}
+
 /// The last entry that isn't 0, and 0 where there is none.
 pub fn last_value(row: &[Coeff]) -> Coeff
     ensures { result ≡ triangle.last_value row.now }
 {
-    let mut left = row.len();
-    while left > 0 {
-        left -= 1;
-        let value = row[left];
-        if !is_nothing(value) {
-            return value;
-        }
-    }
-    Coeff::ZERO
+    value_ending_at(last_place(row), row)
 }
 
 /// The place where each level's coefficients of iterators end.

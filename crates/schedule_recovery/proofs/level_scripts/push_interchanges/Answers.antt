@@ -1,11 +1,17 @@
 use Rattle.std.proofs.Common.{◌≡◌, ◌+◌, ◌++◌, ℕ, List, pos, ◌∷◌, [], length, get_or, take, drop, arith, refl, ap, sym, ◌∙◌, subst}
 use Rattle.std.specs.List.{range_with_len}
 use Rattle.std.proofs.lemmas.List.{take_at}
+use Rattle.beta_tree.proofs.Leaves.{same_vector_yes}
 use Rattle.chlore_recover.specs.LevelScripts.{interchanges}
 use Rattle.schedule_recovery.specs.Steps.{HasAll}
 use Rattle.schedule_recovery.proofs.Exchanges.{after_long, all_after, all_first, below_at, wanted_there}
-use Rattle.schedule_recovery.proofs.LevelSteps.{interchange_more}
+use Rattle.schedule_recovery.proofs.LevelSteps.{interchange_more, no_interchanges}
 use Rattle.schedule_recovery.proofs.level_scripts.push_interchanges.Goals as goal
+
+pub returns-then-is_in_order : goal.returns-then-is_in_order
+returns-then-is_in_order c =
+    no_interchanges (pos c.args.number ∷ []) c.args.places.now c.args.script.now
+    (same_vector_yes c.args.places.now (range_with_len 0 (length c.args.places.now)) (sym c.is_in_order.ensures ∙ c.if-is_in_order.true))
 
 pub loop-k-init : goal.loop-k-init
 loop-k-init c = record {
