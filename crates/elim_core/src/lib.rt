@@ -27,6 +27,7 @@ mod projections;
 mod pruning;
 mod reductions;
 mod refutations;
+mod repairs;
 mod searches;
 mod signs;
 mod starts;

@@ -1,9 +1,10 @@
-//! The verdict that two rows, a point at hand or the simplex method gives, once a check has accepted it.
+//! The verdict that two rows, a point at hand, one near it or the simplex method gives, once a check has accepted it.
 
 ghost use Rattle.std.specs.Prelude.{IfOk, IfSome};
 ghost use Rattle.elim_core.specs.Peaks.{IsRight};
 
 use crate::opposed_rows::opposed_rows;
+use crate::repairs::repair;
 use crate::verdicts::Verdict;
 use farkas_cert::{Certificate, check, check_point};
 use relation_core::Part;
@@ -12,7 +13,8 @@ use simplex_core::{Candidate, WarmStart, search};
 use std::alloc::Global;
 use suite_base::NoMemory;
 
-/// Searches of systems one after the other: a point found for one is tried first for those that follow.
+/// Searches of systems one after the other: a point found for one is tried first for those that follow, as it is and
+/// repaired.
 #[derive(Drop)]
 pub struct Search {
     // the last point found, or nothing
@@ -27,7 +29,7 @@ impl Search {
         }
     }
 
-    /// The verdict that `search_checked` finds for `system`, or that the last point gives it.
+    /// The verdict that `search_checked` finds for `system`, or that the last point gives it, as it is or repaired.
     pub fn search(&mut self, alloc: Global, system: &Part) -> Result<Option<Verdict>, NoMemory>
         ensures { IfOk result (λ found. IfSome found (λ verdict. IsRight system.now verdict)) }
     {
@@ -35,6 +37,9 @@ impl Search {
             return Ok(Some(verdict));
         }
         if let Some(verdict) = accept_point(system, self.point.as_slice()) {
+            return Ok(Some(verdict));
+        }
+        if let Some(verdict) = self.search_nearby(alloc, system)? {
             return Ok(Some(verdict));
         }
         match search(alloc, system)? {
@@ -47,6 +52,28 @@ impl Search {
             Candidate::Nothing => Ok(None),
         }
     }
+
+    // The verdict of the last point, or else of the origin, once it is repaired.
+    fn search_nearby(&mut self, alloc: Global, system: &Part) -> Result<Option<Verdict>, NoMemory>
+        ensures { IfOk result (λ found. IfSome found (λ verdict. IsRight system.now verdict)) }
+    {
+        if self.point.len() != system.width() {
+            self.point = origin(alloc, system.width())?;
+        }
+        match repair(system, self.point.as_mut_slice()) {
+            Some(()) => Ok(accept_point(system, self.point.as_slice())),
+            None => Ok(None),
+        }
+    }
+}
+
+// The point of so many entries whose columns are 0.
+fn origin(alloc: Global, width: usize) -> Result<Vec<Coeff>, NoMemory> {
+    let mut point = vec![in alloc; Coeff::ZERO; width]?;
+    if let [.., denominator] = point.as_mut_slice() {
+        *denominator = Coeff::ONE;
+    }
+    Ok(point)
 }
 
 /// The verdict that two opposed rows or the simplex method gives for `system`; `None` where neither
