@@ -1,11 +1,10 @@
 //! The dependence systems of a SCoP, which are timed as they are listed, built and decided.
 
+use crate::scops::scop_in;
 use candl_deps::dependences;
-use scop_reader::read_scop;
 use std::alloc::Global;
 use std::test::Fail;
 use std::time::{Clock, Instant};
-use suite_base::MAX_INPUT;
 
 /// How many systems a SCoP has, and the time that all of them took in some rounds, in nanoseconds.
 #[derive(Clone, Copy, Debug)]
@@ -22,10 +21,7 @@ pub fn dependence_time(
     text: &[u8],
     rounds: u32,
 ) -> Result<Option<DependenceTime>, Fail> {
-    if text.len() > MAX_INPUT {
-        return Ok(None);
-    }
-    let Ok(scop) = read_scop(alloc, text) else {
+    let Some(scop) = scop_in(alloc, text) else {
         return Ok(None);
     };
     let mut systems = 0;

@@ -12,6 +12,7 @@ mod recoveries;
 mod regions;
 mod rows;
 mod runs;
+mod scops;
 mod scripts;
 mod system_files;
 mod systems;

@@ -1,12 +1,12 @@
 //! SCoPs of many statements in twelve loops, whose schedules are recovered from themselves and timed.
 
+use crate::scops::{END, head, scop_in};
 use itoa::Buffer;
 use schedule_recovery::recover;
-use scop_reader::read_scop;
 use std::alloc::Global;
 use std::test::Fail;
 use std::time::{Clock, Instant};
-use suite_base::{MAX_INPUT, NoMemory, Text};
+use suite_base::{NoMemory, Text};
 
 const LOOPS: usize = 12;
 
@@ -44,11 +44,7 @@ fn push_row(text: &mut Text, r: usize, beta: u32) -> Result<(), NoMemory> {
 // A SCoP of so many statements in twelve loops: in one nest, or each in its own.
 fn nests(alloc: Global, count: u32, in_one: bool) -> Result<Text, NoMemory> {
     let counted = if in_one { 2 * LOOPS } else { 0 };
-    let mut digits = Buffer::new();
-    let mut text = Text::new(alloc);
-    text.push_bytes(b"<OpenScop>\nC\nCONTEXT\n0 2 0 0 0 0\n0\n")?;
-    text.push_bytes(digits.format(count).as_bytes())?;
-    text.push(b'\n')?;
+    let mut text = head(alloc, count)?;
     for k in 0..count {
         text.push_bytes(STATEMENT)?;
         for r in 0..2 * LOOPS + 1 {
@@ -56,7 +52,7 @@ fn nests(alloc: Global, count: u32, in_one: bool) -> Result<Text, NoMemory> {
         }
         text.push_bytes(b"0\n")?;
     }
-    text.push_bytes(b"</OpenScop>\n")?;
+    text.push_bytes(END)?;
     Ok(text)
 }
 
@@ -77,10 +73,7 @@ pub fn recovery_time(
     in_one: bool,
 ) -> Result<Option<RecoveryTime>, Fail> {
     let text = nests(alloc, count, in_one)?;
-    if text.bytes().len() > MAX_INPUT {
-        return Ok(None);
-    }
-    let Ok(scop) = read_scop(alloc, text.bytes()) else {
+    let Some(scop) = scop_in(alloc, text.bytes()) else {
         return Ok(None);
     };
     let start = Instant::now(clock)?;

@@ -1,9 +1,9 @@
 //! A long script on a SCoP of many statements, which is timed through the commands.
 
+use crate::scops::{END, head, scop_in};
 use clay_commands::apply;
 use clay_script::read_script;
 use itoa::Buffer;
-use scop_reader::read_scop;
 use std::alloc::Global;
 use std::test::Fail;
 use std::time::{Clock, Instant};
@@ -28,16 +28,13 @@ fn long_script(alloc: Global) -> Result<Text, NoMemory> {
 // A SCoP of so many statements, each in a loop of its own.
 fn loops(alloc: Global, count: u32) -> Result<Text, NoMemory> {
     let mut digits = Buffer::new();
-    let mut text = Text::new(alloc);
-    text.push_bytes(b"<OpenScop>\nC\nCONTEXT\n0 2 0 0 0 0\n0\n")?;
-    text.push_bytes(digits.format(count).as_bytes())?;
-    text.push(b'\n')?;
+    let mut text = head(alloc, count)?;
     for k in 0..count {
         text.push_bytes(STATEMENT)?;
         text.push_bytes(digits.format(k).as_bytes())?;
         text.push_bytes(STATEMENT_END)?;
     }
-    text.push_bytes(b"</OpenScop>\n")?;
+    text.push_bytes(END)?;
     Ok(text)
 }
 
@@ -46,13 +43,13 @@ fn loops(alloc: Global, count: u32) -> Result<Text, NoMemory> {
 pub fn script_time(clock: &impl Clock, alloc: Global, count: u32) -> Result<Option<u128>, Fail> {
     let script = long_script(alloc)?;
     let scop = loops(alloc, count)?;
-    if script.bytes().len() > MAX_INPUT || scop.bytes().len() > MAX_INPUT {
+    if script.bytes().len() > MAX_INPUT {
         return Ok(None);
     }
     let Ok(script) = read_script(alloc, script.bytes()) else {
         return Ok(None);
     };
-    let Ok(scop) = read_scop(alloc, scop.bytes()) else {
+    let Some(scop) = scop_in(alloc, scop.bytes()) else {
         return Ok(None);
     };
     let start = Instant::now(clock)?;
