@@ -1,4 +1,5 @@
 pub mod Ranges
+pub mod Multiples
 pub mod FormLaws
 pub mod LayerLaws
 pub mod BoundLaws

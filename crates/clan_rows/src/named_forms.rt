@@ -1,8 +1,9 @@
 //! The forms of integers and of names.
 
 ghost use Rattle.std.specs.Prelude.{◌≡◌, bytes_eq, cond, not, pos, ◌&&◌, IfOk};
+ghost use Rattle.row_core.specs.Rows.{scale};
 ghost use Rattle.clan_extract.specs.Regions.{is_among};
-ghost use Rattle.clan_extract.specs.Forms.{constant_form, first_of_name, innermost, name_form};
+ghost use Rattle.clan_extract.specs.Forms.{constant_form, first_of_name, innermost, multiple, name_form};
 ghost use Rattle.clan_rows.specs.Contents.{affine_of};
 
 use crate::forms::Form;
@@ -39,35 +40,45 @@ fn is_innermost(own: &[u8], inner: &[Text], name: &[u8]) -> bool
     is_same(own, name) && !is_named(name, inner)
 }
 
-// 1 or 0.
-fn unit_if(test: bool) -> Coeff
-    ensures { result ≡ cond test (pos 1) (pos 0) }
+// The factor, or 0.
+fn factor_if(test: bool, factor: Coeff) -> Coeff
+    ensures { result ≡ cond test factor (pos 0) }
 {
-    if test { Coeff::ONE } else { Coeff::ZERO }
+    if test { factor } else { Coeff::ZERO }
 }
 
-// 1 for the innermost loop of the name, and 0 for the others.
-fn innermost_row(alloc: Global, loops: &[Text], name: &[u8]) -> Result<DenseRow, NoMemory>
-    ensures { IfOk result (λ row. row ≡ innermost loops.now name.now) }
+// The factor for the innermost loop of the name, and 0 for the others.
+fn innermost_row(
+    alloc: Global,
+    loops: &[Text],
+    name: &[u8],
+    factor: Coeff,
+) -> Result<DenseRow, NoMemory>
+    ensures { IfOk result (λ row. row ≡ scale factor (innermost loops.now name.now)) }
 {
     let mut row = DenseRow::new(alloc);
     let mut rest = loops;
     while let [own, inner @ ..] = rest {
-        row.push(unit_if(is_innermost(own.bytes(), inner, name)))?;
+        row.push(factor_if(is_innermost(own.bytes(), inner, name), factor))?;
         rest = inner;
     }
     Ok(row)
 }
 
-// 1 for the first parameter of the name, and 0 for the others.
-fn first_row(alloc: Global, parameters: &[Text], name: &[u8]) -> Result<DenseRow, NoMemory>
-    ensures { IfOk result (λ row. row ≡ first_of_name parameters.now name.now) }
+// The factor for the first parameter of the name, and 0 for the others.
+fn first_row(
+    alloc: Global,
+    parameters: &[Text],
+    name: &[u8],
+    factor: Coeff,
+) -> Result<DenseRow, NoMemory>
+    ensures { IfOk result (λ row. row ≡ scale factor (first_of_name parameters.now name.now)) }
 {
     let mut row = DenseRow::new(alloc);
     let mut rest = parameters;
     while let [first, others @ ..] = rest {
         if is_same(first.bytes(), name) {
-            row.push(Coeff::ONE)?;
+            row.push(factor)?;
             row.push_zeros(others.len())?;
             return Ok(row);
         }
@@ -77,20 +88,21 @@ fn first_row(alloc: Global, parameters: &[Text], name: &[u8]) -> Result<DenseRow
     Ok(row)
 }
 
-// The parameters' coefficients of a name.
+// The parameters' coefficients of a name, by the factor.
 fn parameter_row(
     alloc: Global,
     parameters: &[Text],
     loops: &[Text],
     name: &[u8],
+    factor: Coeff,
 ) -> Result<DenseRow, NoMemory>
-    ensures { IfOk result (λ row. row ≡ (name_form parameters.now loops.now name.now).parameters) }
+    ensures { IfOk result (λ row. row ≡ scale factor (name_form parameters.now loops.now name.now).parameters) }
 {
     if is_named(name, loops) {
-        zero_row(alloc, parameters.len())
-    } else {
-        first_row(alloc, parameters, name)
+        let zeros = zero_row(alloc, parameters.len())?;
+        return Ok(zeros);
     }
+    first_row(alloc, parameters, name, factor)
 }
 
 impl Form {
@@ -111,6 +123,7 @@ impl Form {
     }
 
     /// The form of a name inside these loops: the innermost loop of the name, else the parameter.
+    #[tactic(auto, using(crate::proofs::Multiples::multiple_by_one))]
     pub fn of_name(
         alloc: Global,
         parameters: &[Text],
@@ -119,9 +132,22 @@ impl Form {
     ) -> Result<Form, NoMemory>
         ensures { IfOk result (λ form. affine_of form ≡ name_form parameters.now loops.now name.now) }
     {
+        Form::of_multiple(alloc, parameters, loops, name, Coeff::ONE)
+    }
+
+    /// The form of a name inside these loops, multiplied by a factor.
+    pub fn of_multiple(
+        alloc: Global,
+        parameters: &[Text],
+        loops: &[Text],
+        name: &[u8],
+        factor: Coeff,
+    ) -> Result<Form, NoMemory>
+        ensures { IfOk result (λ form. affine_of form ≡ multiple factor (name_form parameters.now loops.now name.now)) }
+    {
         Ok(Form {
-            iterators: innermost_row(alloc, loops, name)?,
-            parameters: parameter_row(alloc, parameters, loops, name)?,
+            iterators: innermost_row(alloc, loops, name, factor)?,
+            parameters: parameter_row(alloc, parameters, loops, name, factor)?,
             constant: Coeff::ZERO,
         })
     }
