@@ -67,7 +67,7 @@ either_length : (b : Bool) (parameters : List (List ℕ)) (name : List ℕ)
 either_length true parameters name = zeros_length (length parameters)
 either_length false parameters name = first_length parameters name
 
-plain_value : (parameters loops : List (List ℕ)) (name : List ℕ) (at : ℕ) (f : Affine) → f ≡ name_form parameters loops name
+pub plain_value : (parameters loops : List (List ℕ)) (name : List ℕ) (at : ℕ) (f : Affine) → f ≡ name_form parameters loops name
     → IsValue parameters loops (Named name at NoTerms) (of_form (Some f) true)
 plain_value parameters loops name at f made = record {
   shape = subst (λ g. HasShape parameters loops (Some g)) (sym made) (innermost_length loops name, either_length (is_among name loops) parameters name);

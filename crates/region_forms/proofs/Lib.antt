@@ -1,6 +1,7 @@
 pub mod Values
 pub mod Trees
 pub mod Leaves
+pub mod NameMultiples
 pub mod Digits
 pub mod Operands
 pub mod Tests

@@ -221,7 +221,10 @@ fn sides_layer(
     let left = sum_value(alloc, scope, left)?;
     let right = sum_value(alloc, scope, right)?;
     match &left.quotient {
-        Some(quotient) => Layer::of_remainder(alloc, sign, &quotient.dividend, quotient.divisor),
+        Some(quotient) => {
+            let quotient = quotient.get();
+            Layer::of_remainder(alloc, sign, &quotient.dividend, quotient.divisor)
+        }
         None => Layer::of_comparison(alloc, sign, &left.form, &right.form),
     }
 }

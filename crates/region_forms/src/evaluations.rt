@@ -3,7 +3,8 @@
 ghost use Rattle.std.specs.Prelude.{◌≡◌, ◌||◌, IfOk};
 ghost use Rattle.clan_rows.specs.Contents.{AgreeInShape, made};
 ghost use Rattle.region_forms.specs.Evaluations as spec;
-ghost use Rattle.region_trees.specs.Terms.{Integer, number_of, target_of};
+ghost use Rattle.c_lexer.specs.Pieces.{bytes_of};
+ghost use Rattle.region_trees.specs.Terms.{Integer, Joined, Named, NoTerms, Times, number_of, target_of};
 
 use crate::numbers::integer;
 use crate::scopes::Scope;
@@ -11,6 +12,7 @@ use c_lexer::piece_bytes;
 use c_parser::{Piece, ProductSign, SumSign, Target, UnarySign};
 use clan_rows::{Form, difference, negative, product, sum};
 use row_core::Coeff;
+use sqlite_items::Boxed;
 use std::alloc::Global;
 use suite_base::NoMemory;
 
@@ -22,13 +24,14 @@ pub struct Quotient {
 }
 
 /// The form of an expression, where the form of each of its parts is in range, and whether names stand
-/// in its text; the integer that it is alone; and what is divided, where it is a remainder.
+/// in its text; the integer that it is alone; and what is divided, where it is a remainder. That is kept
+/// apart, since evaluations are moved from part to whole and few are remainders.
 #[derive(Drop)]
 pub struct Evaluation {
     pub form: Option<Form>,
     pub names: bool,
     pub integer: Option<Coeff>,
-    pub quotient: Option<Quotient>,
+    pub quotient: Option<Boxed<Quotient>>,
 }
 
 impl Evaluation {
@@ -85,15 +88,18 @@ impl Evaluation {
                 Ok(Evaluation::of_form(form, names))
             }
             ProductSign::Divide => Ok(Evaluation::nothing()),
-            ProductSign::Remainder => Ok(Evaluation {
-                form: None,
-                names: false,
-                integer: None,
-                quotient: Some(Quotient {
+            ProductSign::Remainder => {
+                let quotient = Quotient {
                     dividend: self.form,
                     divisor: other.integer,
-                }),
-            }),
+                };
+                Ok(Evaluation {
+                    form: None,
+                    names: false,
+                    integer: None,
+                    quotient: Some(Boxed::new(alloc, quotient)?),
+                })
+            }
         }
     }
 
@@ -160,4 +166,24 @@ pub fn named(alloc: Global, scope: &Scope<'_>, target: &Target) -> Result<Evalua
     let name = piece_bytes(scope.source, target.name);
     let form = Form::of_name(alloc, scope.parameters, scope.loops, name)?;
     Ok(Evaluation::of_form(Some(form), true))
+}
+
+/// The value of an integer by a name, whose form is made at once.
+pub fn multiple(
+    alloc: Global,
+    scope: &Scope<'_>,
+    digits: Piece,
+    name: Piece,
+) -> Result<Evaluation, NoMemory>
+    ensures { IfOk result (λ v. spec.IsValueAt scope.now (Joined Times (Integer (number_of scope.now.source.now digits)) (Named (bytes_of scope.now.source.now name) name.from NoTerms)) (spec.told v)) }
+{
+    match integer(piece_bytes(scope.source, digits)) {
+        None => Ok(Evaluation::of_form(None, true)),
+        Some(factor) => {
+            let name = piece_bytes(scope.source, name);
+            let form = Form::of_multiple(alloc, scope.parameters, scope.loops, name, factor)?;
+            form.stays_in_range();
+            Ok(Evaluation::of_form(Some(form), true))
+        }
+    }
 }

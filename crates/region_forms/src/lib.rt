@@ -5,6 +5,7 @@ mod bounds;
 mod conditions;
 mod evaluations;
 mod loops;
+mod multiples;
 mod numbers;
 mod scopes;
 mod sums;

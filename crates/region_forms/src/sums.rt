@@ -5,7 +5,8 @@ ghost use Rattle.region_forms.specs.Evaluations as spec;
 ghost use Rattle.region_trees.specs.Layers.{joined_by, term_of_sum};
 ghost use Rattle.region_trees.specs.Terms.{and_of, compare_of, equal_of, of_product, of_sum, or_of, primary_of, product_of, unary_of, value_of};
 
-use crate::evaluations::{Evaluation, named, number};
+use crate::evaluations::{Evaluation, multiple, named, number};
+use crate::multiples::multiple_parts;
 use crate::scopes::Scope;
 use c_parser::{Primary, Product, Sum, Unary, Value};
 use std::alloc::Global;
@@ -33,6 +34,9 @@ fn product_value(
 ) -> Result<Evaluation, NoMemory>
     ensures { IfOk result (λ v. spec.IsValueAt scope.now (product_of scope.now.source.now product.now) (spec.told v)) }
 {
+    if let Some((digits, name)) = multiple_parts(product) {
+        return multiple(alloc, scope, digits, name);
+    }
     let mut value = unary_value(alloc, scope, &product.first)?;
     for (sign, unary) in product.rest.as_slice() {
         let next = unary_value(alloc, scope, unary)?;

@@ -34,6 +34,12 @@ unary_value-returns t c =
     (subst (λ signs. Signs signs (told c.in_ok-value.value) (told v)) c.as_slice.ensures p _ _ _ c.in_ok-value.ensures))
     c.signed.ensures
 
+pub product_value-returns-in-Some : goal.product_value-returns-in-Some
+product_value-returns-in-Some t c =
+    ok_map c.multiple.result _ _
+    (λ v p. subst (λ t. IsValueAt c.args.scope.now t (told v)) (sym (c.in-Some.ensures c.args.scope.now.source.now)) p)
+    c.multiple.ensures
+
 pub product_value-loop-sign-preserved : goal.product_value-loop-sign-preserved
 product_value-loop-sign-preserved t c =
     let rest = c.as_slice-sign-items.ensures in
