@@ -1,5 +1,5 @@
 -- What the registers answer are the names of all occurrences, or the place of their first clash.
-use Rattle.std.proofs.Common.{◌≡◌, ℕ, List, [], ◌∷◌, ◌++◌, refl, sym, ap, ◌∙◌, append_assoc}
+use Rattle.std.proofs.Common.{◌≡◌, ℕ, List, [], ◌∷◌, ◌++◌, refl, sym, ap, subst, ◌∙◌, append_assoc}
 use Rattle.std.specs.Prelude.{Bool, true, false, not, cond, ◌&&◌, ◌||◌, bytes_eq, Option, Some, None, is_some, Result, Ok, Err}
 use Rattle.std.proofs.lemmas.List.{append-nil}
 use Rattle.std.proofs.lemmas.Bool.{eqb-true, eq-eqb}
@@ -10,7 +10,7 @@ use Rattle.region_names.specs.declared.region.Names.{Names}
 use Rattle.region_names.specs.declared.registers.Register.{Register}
 use Rattle.region_names.specs.declared.registers.Walk.TheVariants as walk
 use Rattle.region_names.specs.Tables.{role_in, names_in}
-use Rattle.region_names.specs.Registers.{with_name, noted, plain_by, resolved, met, started, after}
+use Rattle.region_names.specs.Registers.{with_name, noted, plain_by, resolved, met, until_clash, started, restarted, told_first, told, after}
 use Rattle.region_names.proofs.Tables.{names_in_append}
 use Rattle.region_names.specs.Answers.{unless_clash, names_or_clash, kept_names}
 
@@ -119,10 +119,6 @@ noted_is es o name = by (says_parameter o.role)
 abbrev notes : List (List ℕ × Role) → List Occurrence → List (List ℕ × Role)
 notes es [] = es
 notes es (o ∷ os) = notes (noted es o) os
-
-first_walk : (es : List (List ℕ × Role)) (os : List Occurrence) → after (started es) os ≡ started (notes es os)
-first_walk es [] = refl
-first_walk es (o ∷ os) = first_walk (noted es o) os
 
 all_noted : (es : List (List ℕ × Role)) (os : List Occurrence) (name : List ℕ)
     → is_some (role_in (notes es os) name) ≡ (is_some (role_in es name) || has_parameter os name)
@@ -328,9 +324,9 @@ module _ (all : List Occurrence) where
 
   -- ---- the register of roles
 
-  module _ (parameters : List (List ℕ × Role)) (resolves : (o : Occurrence) → resolved parameters o.name o.role ≡ role_of all o) where
+  module _ (parameters : List (List ℕ × Role)) (plain : Bool) (resolves : (o : Occurrence) → resolved parameters o.name o.role ≡ role_of all o) where
     abbrev state : List (List ℕ × Role) → Option ℕ → Register
-    state es clash = record { walk = walk.Roles; parameters = parameters; roles = es; clash = clash }
+    state es clash = record { walk = walk.Second; parameters = parameters; roles = es; clash = clash; plain = plain }
 
     -- nothing is kept behind a clash
     stands_still : (es : List (List ℕ × Role)) (at : ℕ) (os : List Occurrence) → after (state es (Some at)) os ≡ state es (Some at)
@@ -392,9 +388,111 @@ module _ (all : List Occurrence) where
         next_answers es before o os split keeps
         (λ fs kept. all_answers os fs (before ++ o ∷ []) (split ∙ sym (append_assoc before (o ∷ []) os)) kept)
 
+-- ---- the first walk
+
+abbrev first : List (List ℕ × Role) → List (List ℕ × Role) → Option ℕ → Bool → Register
+first ps rs clash plain = record { walk = walk.First; parameters = ps; roles = rs; clash = clash; plain = plain }
+
+abbrev second : List (List ℕ × Role) → List (List ℕ × Role) → Option ℕ → Bool → Register
+second ps rs clash plain = record { walk = walk.Second; parameters = ps; roles = rs; clash = clash; plain = plain }
+
+-- an occurrence of one role changes two registers alike
+module _ (P : Register → Register → Type 0) (ps qs : List (List ℕ × Role)) (p q : Bool) where
+  meets : (rs : List (List ℕ × Role)) (role : Role) (o : Occurrence)
+      → ((ts : List (List ℕ × Role)) (clash : Option ℕ) → P (first ps ts clash p) (second qs ts clash q))
+      → (found : Option Role)
+      → P (met found (first ps rs None p) role o.name o.shadows o.at) (met found (second qs rs None q) role o.name o.shadows o.at)
+  meets rs role o h None = by o.shadows
+    where
+      by : (t : Bool)
+          → P (cond t (first ps rs (Some o.at) p) (first ps (rs ++ (o.name, role) ∷ []) None p)) (cond t (second qs rs (Some o.at) q) (second qs (rs ++ (o.name, role) ∷ []) None q))
+      by true = h rs (Some o.at)
+      by false = h (rs ++ (o.name, role) ∷ []) None
+  meets rs role o h (Some known) = by (o.shadows || not (same_role role known))
+    where
+      by : (t : Bool) → P (cond t (first ps rs (Some o.at) p) (first ps rs None p)) (cond t (second qs rs (Some o.at) q) (second qs rs None q))
+      by true = h rs (Some o.at)
+      by false = h rs None
+
+  tells : (rs : List (List ℕ × Role)) (role : Role) (o : Occurrence)
+      → ((ts : List (List ℕ × Role)) (clash : Option ℕ) → P (first ps ts clash p) (second qs ts clash q))
+      → (clash : Option ℕ)
+      → P (until_clash clash (first ps rs clash p) role o.name o.shadows o.at) (until_clash clash (second qs rs clash q) role o.name o.shadows o.at)
+  tells rs role o h (Some at) = h rs (Some at)
+  tells rs role o h None = meets rs role o h (role_in rs o.name)
+
+noted_plain : (ps : List (List ℕ × Role)) (o : Occurrence) → o.role ≡ None → noted ps o ≡ ps
+noted_plain ps o e = ap (λ r. cond (says_parameter r) (with_name ps o.name (role_in ps o.name)) ps) e
+
+abbrev notes_all : List Occurrence → Type 0
+notes_all os =
+    (ps rs : List (List ℕ × Role)) (clash : Option ℕ) (p : Bool) → (after (first ps rs clash p) os).parameters ≡ notes ps os
+
+first_parameters : (os : List Occurrence) → notes_all os
+first_parameters [] ps rs clash p = refl
+first_parameters (o ∷ os) ps rs clash p = by (first_parameters os) o.role refl
+  where
+    by : notes_all os → (r : Option Role) → o.role ≡ r → (after (told_first r (first ps rs clash p) o) os).parameters ≡ notes (noted ps o) os
+    by rest None e = rest ps rs clash true ∙ ap (λ t. notes t os) (sym (noted_plain ps o e))
+    by rest (Some own) e =
+        tells (λ x y. (after x os).parameters ≡ notes (noted ps o) os) (noted ps o) [] p false rs own o (λ ts clash. rest (noted ps o) ts clash p) clash
+
+abbrev stays_plain : List Occurrence → Type 0
+stays_plain os = (ps rs : List (List ℕ × Role)) (clash : Option ℕ) → (after (first ps rs clash true) os).plain ≡ true
+
+plain_stays : (os : List Occurrence) → stays_plain os
+plain_stays [] ps rs clash = refl
+plain_stays (o ∷ os) ps rs clash = by (plain_stays os) o.role
+  where
+    by : stays_plain os → (r : Option Role) → (after (told_first r (first ps rs clash true) o) os).plain ≡ true
+    by rest None = rest ps rs clash
+    by rest (Some own) =
+        tells (λ x y. (after x os).plain ≡ true) (noted ps o) [] true false rs own o (λ ts clash. rest (noted ps o) ts clash) clash
+
+-- where no name is plain, both walks answer the same
+abbrev answer_alike : List Occurrence → Register → Register → Type 0
+answer_alike os x y = (after x os).plain ≡ false → kept_names (after x os) ≡ kept_names (after y os)
+
+abbrev all_alike : List Occurrence → Type 0
+all_alike os =
+    (ps qs rs : List (List ℕ × Role)) (clash : Option ℕ) (p q : Bool) → answer_alike os (first ps rs clash p) (second qs rs clash q)
+
+same_kept : (os : List Occurrence) → all_alike os
+same_kept [] ps qs rs clash p q = by clash
+  where
+    by : (clash : Option ℕ) → answer_alike [] (first ps rs clash p) (second qs rs clash q)
+    by None h = refl
+    by (Some at) h = refl
+same_kept (o ∷ os) ps qs rs clash p q = by (same_kept os) o.role refl
+  where
+    true_is_not_false : true ≡ false → ⊥
+    true_is_not_false e = cc
+
+    by : all_alike os → (r : Option Role) → o.role ≡ r → answer_alike os (told_first r (first ps rs clash p) o) (told (second qs rs clash q) o)
+    by rest None e = λ none. absurd (true_is_not_false (sym (plain_stays os ps rs clash) ∙ none))
+    by rest (Some own) e =
+        let role : own ≡ resolved qs o.name o.role = ap (role_with (plain_by (role_in qs o.name))) (sym e) in
+        subst (λ r. answer_alike os (told_first (Some own) (first ps rs clash p) o) (until_clash clash (second qs rs clash q) r o.name o.shadows o.at)) role
+        (tells (answer_alike os) (noted ps o) qs p q rs own o (λ ts clash. rest (noted ps o) qs ts clash p q) clash)
+
+-- ---- answers
+
+second_answers : (all : List Occurrence) (plain : Bool) → kept_names (after (second (notes [] all) [] None plain) all) ≡ names_or_clash all
+second_answers all plain =
+    all_answers all (notes [] all) plain (resolved_is all) all [] [] refl (record { roles = λ name. refl; names = λ test. refl })
+
+-- one walk, where no name is plain
+pub first_walk_answers : (all : List Occurrence) (s : Register) → s ≡ after (started []) all → s.plain ≡ false → kept_names s ≡ names_or_clash all
+first_walk_answers all s told none =
+    ap kept_names told
+    ∙ same_kept all [] (notes [] all) [] None false true (sym (ap (λ (r : Register). r.plain) told) ∙ none)
+    ∙ second_answers all true
+
 -- the two walks, one after the other
-pub walks_answer : (all : List Occurrence) (s t u : Register) → s ≡ after (started []) all → t ≡ record s { walk = walk.Roles } → u ≡ after t all
-    → kept_names u ≡ names_or_clash all
-walks_answer all s t u first next second =
-    ap kept_names (second ∙ ap (λ r. after r all) (next ∙ ap (λ (r : Register). let q : Register = record r { walk = walk.Roles } in q) (first ∙ first_walk [] all)))
-    ∙ all_answers all (notes [] all) (resolved_is all) all [] [] refl (record { roles = λ name. refl; names = λ test. refl })
+pub walks_answer : (all : List Occurrence) (s t u : Register) → s ≡ after (started []) all → t ≡ restarted s → u ≡ after t all → kept_names u ≡ names_or_clash all
+walks_answer all s t u told next again =
+    ap kept_names (again ∙ ap (λ r. after r all) (next ∙ ap (λ ps. second ps [] None s.plain) noted_all))
+    ∙ second_answers all s.plain
+  where
+    noted_all : s.parameters ≡ notes [] all
+    noted_all = ap (λ (r : Register). r.parameters) told ∙ first_parameters all [] [] None false

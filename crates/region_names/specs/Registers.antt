@@ -1,5 +1,5 @@
--- What a walk keeps of the occurrences of names: first which names are parameters, then the role of each name, up to the first clash.
-use Rattle.std.specs.Prelude.{ℕ, List, [], ◌∷◌, ◌++◌, Bool, cond, not, ◌||◌, Option, Some, None}
+-- What a walk keeps of the occurrences of names: which names are parameters, and the role of each name, up to the first clash.
+use Rattle.std.specs.Prelude.{ℕ, List, [], ◌∷◌, ◌++◌, Bool, true, false, cond, not, ◌||◌, Option, Some, None}
 use Rattle.clan_extract.specs.Names.{Role, ArrayOf, Parameter, Occurrence, same_role, says_parameter, role_with}
 use Rattle.region_names.specs.declared.registers.Register.{Register}
 use Rattle.region_names.specs.declared.registers.Walk.{Walk}
@@ -40,19 +40,28 @@ met None s role name shadows at = cond shadows (clashing s at) (record s { roles
 met (Some first) s role name shadows at = cond (shadows || not (same_role role first)) (clashing s at) s
 
 -- nothing more is kept behind a clash
-abbrev pub until_clash : Option ℕ → Register → Occurrence → Register
-until_clash (Some at) s o = s
-until_clash None s o = met (role_in s.roles o.name) s (resolved s.parameters o.name o.role) o.name o.shadows o.at
+abbrev pub until_clash : Option ℕ → Register → Role → List ℕ → Bool → ℕ → Register
+until_clash (Some at) s role name shadows here = s
+until_clash None s role name shadows here = met (role_in s.roles name) s role name shadows here
 
 -- ---- walks
 
 -- at the start of the first walk, where these names are parameters
 abbrev pub started : List (List ℕ × Role) → Register
-started es = record { walk = walk.Parameters; parameters = es; roles = []; clash = None }
+started es = record { walk = walk.First; parameters = es; roles = []; clash = None; plain = false }
+
+-- at the start of the second walk
+abbrev pub restarted : Register → Register
+restarted s = record s { walk = walk.Second; roles = []; clash = None }
+
+-- the first walk notes parameters, and meets the names that have a role of their own
+abbrev pub told_first : Option Role → Register → Occurrence → Register
+told_first None s o = record s { plain = true }
+told_first (Some own) s o = until_clash s.clash (record s { parameters = noted s.parameters o }) own o.name o.shadows o.at
 
 abbrev pub told_by : Walk → Register → Occurrence → Register
-told_by walk.Parameters s o = record s { parameters = noted s.parameters o }
-told_by walk.Roles s o = until_clash s.clash s o
+told_by walk.First s o = told_first o.role s o
+told_by walk.Second s o = until_clash s.clash s (resolved s.parameters o.name o.role) o.name o.shadows o.at
 
 abbrev pub told : Register → Occurrence → Register
 told s o = told_by s.walk s o

@@ -6,7 +6,7 @@ ghost use Rattle.region_trees.specs.Statements.{statements_of};
 ghost use Rattle.region_names.specs.Answers as spec;
 
 use crate::node_names::tell_nodes;
-use crate::registers::{Register, Walk};
+use crate::registers::Register;
 use crate::roles::Listed;
 use c_parser::Node;
 use std::alloc::Global;
@@ -29,11 +29,14 @@ pub fn names_of(
 ) -> Result<Result<Names, usize>, NoMemory>
     ensures { IfOk result (λ it. it ≡ spec.names_or_clash (occurrences_in_all [] (statements_of source.now nodes.now))) }
 {
-    let mut register = Register::new(alloc);
-    tell_nodes(alloc, source, &[], nodes, &mut register)?;
-    register.walk = Walk::Roles;
-    tell_nodes(alloc, source, &[], nodes, &mut register)?;
-    kept_names(alloc, &register)
+    let mut first = Register::new(alloc);
+    tell_nodes(alloc, source, &[], nodes, &mut first)?;
+    if !first.plain {
+        return kept_names(alloc, &first);
+    }
+    let mut second = first.restarted(alloc);
+    tell_nodes(alloc, source, &[], nodes, &mut second)?;
+    kept_names(alloc, &second)
 }
 
 // The answer where all occurrences were told.

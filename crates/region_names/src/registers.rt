@@ -1,7 +1,7 @@
 //! What a walk keeps of the occurrences of names, in the order of the text.
 
 ghost use Rattle.std.specs.Prelude.{◌≡◌, [], None, OnOk};
-ghost use Rattle.region_names.specs.Registers.{met, resolved, started, told, with_parameter};
+ghost use Rattle.region_names.specs.Registers.{met, resolved, restarted, started, told, until_clash, with_parameter};
 ghost use Rattle.region_names.specs.Roles.{given, role_is};
 ghost use Rattle.region_names.specs.Tables.{role_in};
 ghost use Rattle.region_names.specs.Telling.{seen};
@@ -11,22 +11,23 @@ use crate::roles::{Role, same_role};
 use std::alloc::Global;
 use suite_base::NoMemory;
 
-/// What a walk is for: the role of a plain name depends on all occurrences of the name, so that a first
-/// walk finds the parameters, and a second one the roles.
+/// The role of a plain name depends on all occurrences of the name. So a first walk finds the parameters, and
+/// the roles of the names that never stand plain; where some name does, a second walk finds all roles.
 #[derive(Clone, Copy, Debug, PartialEq, Eq)]
 pub enum Walk {
-    Parameters,
-    Roles,
+    First,
+    Second,
 }
 
-/// The names that some occurrence makes parameters; and the roles of the names before the first clash, with
-/// the place of the clash.
+/// The names that some occurrence makes parameters; the roles of the names before the first clash, with the
+/// place of the clash; and whether the first walk met a plain name.
 #[derive(Drop)]
 pub struct Register<'a> {
     pub walk: Walk,
     pub parameters: RoleTable<'a>,
     pub roles: RoleTable<'a>,
     pub clash: Option<usize>,
+    pub plain: bool,
 }
 
 impl<'a> Register<'a> {
@@ -35,10 +36,24 @@ impl<'a> Register<'a> {
         ensures { result ≡ started [] }
     {
         Register {
-            walk: Walk::Parameters,
+            walk: Walk::First,
             parameters: RoleTable::new(alloc),
             roles: RoleTable::new(alloc),
             clash: None,
+            plain: false,
+        }
+    }
+
+    /// A register for the second walk, with these parameters.
+    pub fn restarted(self, alloc: Global) -> Register<'a>
+        ensures { result ≡ restarted self.entry }
+    {
+        Register {
+            walk: Walk::Second,
+            parameters: self.parameters,
+            roles: RoleTable::new(alloc),
+            clash: None,
+            plain: self.plain,
         }
     }
 
@@ -55,18 +70,39 @@ impl<'a> Register<'a> {
         ensures { OnOk result (self.new ≡ told self.old (seen name.now (given role) shadows at)) }
     {
         match self.walk {
-            Walk::Parameters => match role {
-                Some(Role::Parameter) => self.note(name),
-                _ => Ok(()),
-            },
-            Walk::Roles => {
-                if self.clash.is_some() {
-                    return Ok(());
+            Walk::First => match role {
+                None => {
+                    self.plain = true;
+                    Ok(())
                 }
+                Some(own) => {
+                    if own == Role::Parameter {
+                        self.note(name)?;
+                    }
+                    self.tell_role(name, own, shadows, at)
+                }
+            },
+            Walk::Second => {
                 let role = self.resolved(name, role);
-                self.meet(name, role, shadows, at)
+                self.tell_role(name, role, shadows, at)
             }
         }
+    }
+
+    // An occurrence of this role; nothing more is kept behind a clash.
+    fn tell_role(
+        &mut self,
+        name: &'a [u8],
+        role: Role,
+        shadows: bool,
+        at: usize,
+    ) -> Result<(), NoMemory>
+        ensures { OnOk result (self.new ≡ until_clash self.old.clash self.old (role_is role) name.now shadows at) }
+    {
+        if self.clash.is_some() {
+            return Ok(());
+        }
+        self.meet(name, role, shadows, at)
     }
 
     // Adds a parameter that is new.
