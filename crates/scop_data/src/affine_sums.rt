@@ -1,26 +1,15 @@
 //! Arithmetic of affine values: sums, negatives, and one more floor.
 
-ghost use Rattle.std.specs.Prelude.{◌≡◌, ◌<◌, ◌≤◌, ◌^◌, pos, ◌+ℤ◌, ◌*ℤ◌, length, MatchOption, IfOk, IfErr, OnOk};
+ghost use Rattle.std.specs.Prelude.{◌≡◌, ◌<◌, ◌≤◌, ◌^◌, pos, ◌+ℤ◌, ◌*ℤ◌, neg_ℤ, map, length, MatchOption, IfOk, IfErr, OnOk};
 ghost use Rattle.row_core.specs.Rows.{add_rows, scale, combined_weight, pair_weight};
+ghost use Rattle.scop_data.specs.SolvedRows.{zeros};
 ghost use Rattle.scop_data.specs.AffineSums.{HaveOneSize, plus_multiple, moved, negative, widened, last_floor, sum_weight, move_weight};
 
 use crate::affines::Affine;
-use crate::copies::copied_affine;
-use crate::row_builders::zero_row;
-use row_core::{Coeff, DenseRow, RowFail, Sum, add_scaled, negated};
+use crate::copies::{copied_affine, copied_coeffs};
+use row_core::{Coeff, RowFail, Sum};
 use std::alloc::Global;
-use suite_base::NoMemory;
-
-// The row `a + q b`.
-#[tactic(auto, using(crate::proofs::AffineSums::sum_of_rows))]
-fn row_sum(alloc: Global, a: &DenseRow, q: Coeff, b: &DenseRow) -> Result<DenseRow, RowFail>
-    requires { length a.now ≡ length b.now }
-    ensures ok { IfOk result (λ row. row ≡ add_rows a.now (scale q b.now)) }
-    ensures light { OnOk result (combined_weight (pos 1) a.now q b.now < 2 ^ 127) }
-    ensures heavy { IfErr result (λ fail. fail ≡ RowFail.Overflow → 2 ^ 127 ≤ combined_weight (pos 1) a.now q b.now) }
-{
-    add_scaled(alloc, a, q, b)
-}
+use suite_base::{List, NoMemory};
 
 // The sum `a + q b`; `None` exactly where the absolute values of `a` and `q b` sum above 2^127 - 1.
 fn sum_with(a: Coeff, q: Coeff, b: Coeff) -> Option<Coeff>
@@ -32,18 +21,36 @@ fn sum_with(a: Coeff, q: Coeff, b: Coeff) -> Option<Coeff>
     Some(both.value())
 }
 
-// The row `a + b`.
+// The coefficients `a + q b`.
+fn row_sum(alloc: Global, a: &[Coeff], q: Coeff, b: &[Coeff]) -> Result<List<Coeff>, RowFail>
+    requires { length a.now ≡ length b.now }
+    ensures ok { IfOk result (λ row. row ≡ add_rows a.now (scale q b.now)) }
+    ensures light { OnOk result (combined_weight (pos 1) a.now q b.now < 2 ^ 127) }
+    ensures heavy { IfErr result (λ fail. fail ≡ RowFail.Overflow → 2 ^ 127 ≤ combined_weight (pos 1) a.now q b.now) }
+{
+    let Ok(mut row) = List::with_capacity(alloc, a.len()) else {
+        return Err(RowFail::Memory);
+    };
+    for k in 0..a.len() {
+        let Some(sum) = sum_with(a[k], q, b[k]) else {
+            return Err(RowFail::Overflow);
+        };
+        if row.push(sum).is_err() {
+            return Err(RowFail::Memory);
+        }
+    }
+    Ok(row)
+}
+
+// The coefficients `a + b`.
 #[tactic(auto, using(crate::proofs::AffineSums::one_of_row))]
-fn row_total(alloc: Global, a: &DenseRow, b: &[Coeff]) -> Result<DenseRow, RowFail>
+fn row_total(alloc: Global, a: &[Coeff], b: &[Coeff]) -> Result<List<Coeff>, RowFail>
     requires { length a.now ≡ length b.now }
     ensures ok { IfOk result (λ row. row ≡ add_rows a.now b.now) }
     ensures light { OnOk result (combined_weight (pos 1) a.now (pos 1) b.now < 2 ^ 127) }
     ensures heavy { IfErr result (λ fail. fail ≡ RowFail.Overflow → 2 ^ 127 ≤ combined_weight (pos 1) a.now (pos 1) b.now) }
 {
-    match DenseRow::from_coeffs(alloc, b) {
-        Ok(row) => row_sum(alloc, a, Coeff::ONE, &row),
-        Err(NoMemory) => Err(RowFail::Memory),
-    }
+    row_sum(alloc, a, Coeff::ONE, b)
 }
 
 // The sum `a + b`; `None` exactly where the absolute values sum above 2^127 - 1.
@@ -54,15 +61,37 @@ fn total(a: Coeff, b: Coeff) -> Option<Coeff>
     sum_with(a, Coeff::ONE, b)
 }
 
-// A copy of a row, beside sums that may overflow.
-fn copied_row(alloc: Global, row: &DenseRow) -> Result<DenseRow, RowFail>
+// A copy of coefficients, beside sums that may overflow.
+fn copied_row(alloc: Global, row: &[Coeff]) -> Result<List<Coeff>, RowFail>
     ensures ok { IfOk result (λ made. made ≡ row.now) }
     ensures memory { IfErr result (λ fail. fail ≡ RowFail.Memory) }
 {
-    match row.copy(alloc) {
+    match copied_coeffs(alloc, row) {
         Ok(made) => Ok(made),
         Err(NoMemory) => Err(RowFail::Memory),
     }
+}
+
+// The negatives of coefficients.
+fn negated(alloc: Global, row: &[Coeff]) -> Result<List<Coeff>, NoMemory>
+    ensures { IfOk result (λ made. made ≡ map neg_ℤ row.now) }
+{
+    let mut made = List::with_capacity(alloc, row.len())?;
+    for coeff in row {
+        made.push(coeff.negated())?;
+    }
+    Ok(made)
+}
+
+// So many zeros.
+fn zero_coeffs(alloc: Global, n: usize) -> Result<List<Coeff>, NoMemory>
+    ensures { IfOk result (λ made. made ≡ zeros n) }
+{
+    let mut made = List::with_capacity(alloc, n)?;
+    for _ in 0..n {
+        made.push(Coeff::ZERO)?;
+    }
+    Ok(made)
 }
 
 impl Affine {
@@ -85,9 +114,9 @@ impl Affine {
             return Err(RowFail::Overflow);
         };
         Ok(Affine {
-            iterators: row_sum(alloc, &self.iterators, q, &other.iterators)?,
-            floors: row_sum(alloc, &self.floors, q, &other.floors)?,
-            parameters: row_sum(alloc, &self.parameters, q, &other.parameters)?,
+            iterators: row_sum(alloc, self.iterators(), q, other.iterators())?,
+            floors: row_sum(alloc, self.floors(), q, other.floors())?,
+            parameters: row_sum(alloc, self.parameters(), q, other.parameters())?,
             constant,
         })
     }
@@ -109,9 +138,9 @@ impl Affine {
             return Err(RowFail::Overflow);
         };
         Ok(Affine {
-            iterators: copied_row(alloc, &self.iterators)?,
-            floors: copied_row(alloc, &self.floors)?,
-            parameters: row_total(alloc, &self.parameters, parameters)?,
+            iterators: copied_row(alloc, self.iterators())?,
+            floors: copied_row(alloc, self.floors())?,
+            parameters: row_total(alloc, self.parameters(), parameters)?,
             constant,
         })
     }
@@ -121,9 +150,9 @@ impl Affine {
         ensures { IfOk result (λ value. value ≡ negative self.now) }
     {
         Ok(Affine {
-            iterators: negated(alloc, &self.iterators)?,
-            floors: negated(alloc, &self.floors)?,
-            parameters: negated(alloc, &self.parameters)?,
+            iterators: negated(alloc, self.iterators())?,
+            floors: negated(alloc, self.floors())?,
+            parameters: negated(alloc, self.parameters())?,
             constant: self.constant.negated(),
         })
     }
@@ -132,12 +161,12 @@ impl Affine {
     pub fn widened(&self, alloc: Global) -> Result<Affine, NoMemory>
         ensures { IfOk result (λ value. value ≡ widened self.now) }
     {
-        let mut floors = self.floors.copy(alloc)?;
+        let mut floors = copied_coeffs(alloc, self.floors())?;
         floors.push(Coeff::ZERO)?;
         Ok(Affine {
-            iterators: self.iterators.copy(alloc)?,
+            iterators: copied_coeffs(alloc, self.iterators())?,
             floors,
-            parameters: self.parameters.copy(alloc)?,
+            parameters: copied_coeffs(alloc, self.parameters())?,
             constant: self.constant,
         })
     }
@@ -146,12 +175,12 @@ impl Affine {
     pub fn last_floor(&self, alloc: Global) -> Result<Affine, NoMemory>
         ensures { IfOk result (λ value. value ≡ last_floor self.now) }
     {
-        let mut floors = zero_row(alloc, self.floors.len())?;
+        let mut floors = zero_coeffs(alloc, self.floors.len())?;
         floors.push(Coeff::ONE)?;
         Ok(Affine {
-            iterators: zero_row(alloc, self.iterators.len())?,
+            iterators: zero_coeffs(alloc, self.iterators.len())?,
             floors,
-            parameters: zero_row(alloc, self.parameters.len())?,
+            parameters: zero_coeffs(alloc, self.parameters.len())?,
             constant: Coeff::ZERO,
         })
     }

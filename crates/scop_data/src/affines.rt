@@ -3,17 +3,18 @@
 ghost use Rattle.std.specs.Prelude.{◌≡◌, ◌<◌, length, IfOk};
 ghost use Rattle.row_core.specs.Rows.{entry};
 
-use row_core::{Coeff, DenseRow};
+use crate::copies::copied_coeffs;
+use row_core::Coeff;
 use std::alloc::Global;
-use suite_base::NoMemory;
+use suite_base::{List, NoMemory};
 
 /// One coefficient for each iterator, each floor and each parameter, and a constant. The affine
 /// value of a subscript has no coefficients of floors.
 #[derive(Drop)]
 pub struct Affine {
-    pub(crate) iterators: DenseRow,
-    pub(crate) floors: DenseRow,
-    pub(crate) parameters: DenseRow,
+    pub(crate) iterators: List<Coeff>,
+    pub(crate) floors: List<Coeff>,
+    pub(crate) parameters: List<Coeff>,
     pub(crate) constant: Coeff,
 }
 
@@ -32,9 +33,9 @@ impl Affine {
         ensures constant { IfOk result (λ value. value.constant ≡ constant) }
     {
         Ok(Affine {
-            iterators: DenseRow::from_coeffs(alloc, iterators)?,
-            floors: DenseRow::from_coeffs(alloc, floors)?,
-            parameters: DenseRow::from_coeffs(alloc, parameters)?,
+            iterators: copied_coeffs(alloc, iterators)?,
+            floors: copied_coeffs(alloc, floors)?,
+            parameters: copied_coeffs(alloc, parameters)?,
             constant,
         })
     }
@@ -44,7 +45,7 @@ impl Affine {
         requires { k < length self.now.iterators }
         ensures { result ≡ entry self.now.iterators k }
     {
-        self.iterators.get(k)
+        self.iterators.as_slice()[k]
     }
 
     /// The coefficient of floor `k`, from 0, which is below their number.
@@ -52,7 +53,7 @@ impl Affine {
         requires { k < length self.now.floors }
         ensures { result ≡ entry self.now.floors k }
     {
-        self.floors.get(k)
+        self.floors.as_slice()[k]
     }
 
     /// The coefficient of parameter `k`, from 0, which is below their number.
@@ -60,7 +61,7 @@ impl Affine {
         requires { k < length self.now.parameters }
         ensures { result ≡ entry self.now.parameters k }
     {
-        self.parameters.get(k)
+        self.parameters.as_slice()[k]
     }
 
     /// The coefficients of the iterators.
