@@ -5,8 +5,7 @@ ghost use Rattle.suite_base.specs.Limits.{max_dimensions};
 ghost use Rattle.scop_core.specs.Assembly.{HasCause};
 ghost use Rattle.scop_core.specs.Assembly as assembly;
 ghost use Rattle.clan_walk.specs.Laws.{CanFinish};
-ghost use Rattle.scop_data.specs.Pieces.{statement_pieces, access_piece};
-ghost use Rattle.scop_data.specs.SolvedRows.{HasAccessRelation};
+ghost use Rattle.scop_data.specs.Pieces.{statement_pieces};
 ghost use Rattle.clan_extract.specs.Regions.{Assignment, Assign};
 ghost use Rattle.clan_rows.specs.Contents.{made, said};
 ghost use Rattle.clan_walk.specs.Places.{IsSizedForm};
@@ -19,9 +18,10 @@ use crate::gathering::Accesses;
 use crate::scatterings::scattering;
 use crate::turns::{Direction, Turn};
 use clan_rows::{Count, Form, Layer};
-use relation_core::{Part, Relation, Shape};
+use relation_core::{Part, Shape};
 use scop_core::Scop;
 use scop_data::copies::{copied_text, copied_texts};
+use scop_data::statement_pieces::access_pieces;
 use scop_data::{Access, AccessKind, Body, RawStatement, ScopPieces};
 use std::alloc::Global;
 use std::marker::Model;
@@ -108,24 +108,6 @@ fn refusal_of(k: u32, layer: &Layer, accesses: &Accesses) -> Option<Refusal>
     } else {
         None
     }
-}
-
-// The accesses as relations of one part.
-fn access_pieces(
-    alloc: Global,
-    accesses: &[Access],
-    iterators: usize,
-    parameters: usize,
-) -> Result<List<(AccessKind, Relation)>, NoMemory>
-    requires { All (HasAccessRelation iterators parameters) accesses.now }
-    ensures { IfOk result (λ pieces. pieces ≡ map (access_piece iterators parameters) accesses.now) }
-{
-    let mut pieces = List::new(alloc);
-    for access in accesses {
-        let relation = access.relation(alloc, iterators, parameters)?;
-        pieces.push((access.kind, relation))?;
-    }
-    Ok(pieces)
 }
 
 impl Extraction {

@@ -72,7 +72,7 @@ fn push_affine(
 fn affines(alloc: Global, forms: &[Option<Form>]) -> Result<List<Affine>, NoMemory>
     ensures { IfOk result (λ values. values ≡ fitting_ones (map made forms.now)) }
 {
-    let mut values = List::new(alloc);
+    let mut values = List::with_capacity(alloc, forms.len())?;
     for form in forms {
         push_affine(alloc, &mut values, form)?;
     }

@@ -40,7 +40,7 @@ fn forms_of(
     ensures forms { IfOk result (λ forms. spec.AreForms scope.now.parameters.now scope.now.loops.now (terms_by (sum_of scope.now.source.now) subscripts.now) (map made forms)) }
     ensures sizes { IfOk result (λ forms. All (IsSizedForm (length scope.now.loops.now) (length scope.now.parameters.now)) forms) }
 {
-    let mut forms = List::new(alloc);
+    let mut forms = List::with_capacity(alloc, subscripts.len())?;
     for subscript in subscripts {
         let value = sum_value(alloc, scope, subscript)?;
         forms.push(value.form)?;

@@ -13,7 +13,7 @@ mod raw_pieces;
 pub mod row_builders;
 pub mod run_laws;
 mod schedules;
-mod statement_pieces;
+pub mod statement_pieces;
 mod statements;
 
 pub use accesses::{Access, AccessKind};

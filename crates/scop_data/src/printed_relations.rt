@@ -155,7 +155,7 @@ fn push_subscript_rows(alloc: Global, part: &mut Part, access: &Access) -> Resul
 fn relation_of(alloc: Global, part: Part) -> Result<Relation, NoMemory>
     ensures { IfOk result (λ relation. relation ≡ part ∷ []) }
 {
-    let mut relation = Relation::new(alloc);
+    let mut relation = Relation::with_capacity(alloc, 1)?;
     match relation.push_part(part) {
         Ok(()) => Ok(relation),
         Err((_, failed)) => Err(failed),
@@ -182,7 +182,7 @@ impl Schedule {
             locals: self.floors.len(),
             parameters,
         };
-        let mut part = Part::new(alloc, shape);
+        let mut part = Part::with_capacity(alloc, shape, shape.outputs + 2 * shape.locals)?;
         push_dimension_rows(alloc, &mut part, self)?;
         push_floor_rows(alloc, &mut part, self)?;
         relation_of(alloc, part)
@@ -205,7 +205,7 @@ impl Schedule {
             locals: self.floors.len(),
             parameters,
         };
-        let mut part = Part::new(alloc, shape);
+        let mut part = Part::with_capacity(alloc, shape, 2 * shape.locals)?;
         push_floor_rows(alloc, &mut part, self)?;
         Ok(part)
     }
@@ -230,7 +230,7 @@ impl Access {
             locals: 0,
             parameters,
         };
-        let mut part = Part::new(alloc, shape);
+        let mut part = Part::with_capacity(alloc, shape, shape.outputs)?;
         push_constant_row(alloc, &mut part, 0, self.array)?;
         push_subscript_rows(alloc, &mut part, self)?;
         relation_of(alloc, part)

@@ -37,8 +37,8 @@ impl Statement {
     }
 }
 
-// The accesses as relations of one part.
-fn access_pieces(
+/// The accesses as relations of one part, over so many iterators and parameters.
+pub fn access_pieces(
     alloc: Global,
     accesses: &[Access],
     iterators: usize,
@@ -47,7 +47,7 @@ fn access_pieces(
     requires { All (HasAccessRelation iterators parameters) accesses.now }
     ensures { IfOk result (λ pieces. pieces ≡ map (access_piece iterators parameters) accesses.now) }
 {
-    let mut made = List::new(alloc);
+    let mut made = List::with_capacity(alloc, accesses.len())?;
     for access in accesses {
         let relation = access.relation(alloc, iterators, parameters)?;
         made.push((access.kind, relation))?;
