@@ -1,5 +1,5 @@
 -- Values of rows at points, in pieces.
-use Rattle.std.proofs.Common.{◌≡◌, ℕ, zero, suc, ◌-◌, ◌<◌, ◌≤◌, true, List, [], ◌∷◌, ◌++◌, length, take, drop, set, map, ℤ, pos, ◌+ℤ◌, ◌*ℤ◌, neg_ℤ, unsigned_abs, refl, ap, sym, ◌∙◌, arith, append_assoc}
+use Rattle.std.proofs.Common.{◌≡◌, ℕ, zero, suc, ◌-◌, ◌<◌, ◌≤◌, true, List, [], ◌∷◌, ◌++◌, length, take, drop, set, map, ℤ, pos, ◌+ℤ◌, ◌*ℤ◌, neg_ℤ, unsigned_abs, ◌==◌, refl, ap, sym, ◌∙◌, arith, append_assoc}
 use Rattle.std.specs.Prelude.{slice_range}
 use Rattle.std.specs.Ordering.{int_eq}
 use Rattle.std.proofs.lemmas.Int.{ints}
@@ -13,11 +13,11 @@ use Rattle.relation_core.specs.Systems.{columns, width}
 use Rattle.relation_core.specs.Points.{coordinates}
 use Rattle.relation_core.specs.declared.shapes.Shape.{Shape}
 use Rattle.scop_data.specs.SolvedRows.{with_columns}
-use Rattle.schedule_forms.specs.SolvedForm.{weight, outputs_of, local_column, affine_of, are_opposite, cleared}
+use Rattle.schedule_forms.specs.SolvedForm.{weight, outputs_of, local_column, affine_of, is_constant, are_opposite, cleared}
 use Rattle.scop_data.specs.Meaning.{affine_at}
 use Rattle.schedule_forms.proofs.SolvedShapes.{both}
 use Rattle.schedule_forms.proofs.SolvedPieces.{length_slice}
-use Rattle.schedule_forms.proofs.ReadBackLists.{entry_weight, cleared_is, negative_drop, negative_entry}
+use Rattle.schedule_forms.proofs.ReadBackLists.{entry_weight, cleared_is, negative_drop, negative_entry, negative_weight}
 use Rattle.schedule_forms.proofs.ReadBackRows.{Fits, first}
 
 pub dot_append : (a b u v : List ℤ) → length a ≡ length u → dot (a ++ b) (u ++ v) ≡ dot a u +ℤ dot b v
@@ -171,6 +171,15 @@ negative_take (suc k) (x ∷ row) = ap (λ t. neg_ℤ x ∷ t) (negative_take k 
 
 negative_slice : (row : List ℤ) (a b : ℕ) → slice_range (map neg_ℤ row) a b ≡ map neg_ℤ (slice_range row a b)
 negative_slice row a b = ap (λ r. take (b - a) r) (negative_drop a row) ∙ negative_take (b - a) (drop a row)
+
+pub negative_constant : (shape : Shape) (row : List ℤ) → is_constant (affine_of shape (map neg_ℤ row)) ≡ is_constant (affine_of shape row)
+negative_constant shape row =
+    let part : (a b : ℕ) → (weight (slice_range (map neg_ℤ row) a b) == 0) ≡ (weight (slice_range row a b) == 0)
+    = λ a b. ap (λ r. weight r == 0) (negative_slice row a b) ∙ ap (λ w. w == 0) (negative_weight (slice_range row a b)) in
+    let i = part shape.outputs (local_column shape 0) in
+    let f = part (local_column shape 0) (local_column shape shape.locals) in
+    let p = part (local_column shape shape.locals) (columns shape) in
+    cc
 
 pub negative_value : (shape : Shape) (row x l n : List ℤ) → affine_at (affine_of shape (map neg_ℤ row)) x l n ≡ neg_ℤ (affine_at (affine_of shape row) x l n)
 negative_value shape row x l n =

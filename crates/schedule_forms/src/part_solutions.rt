@@ -4,10 +4,10 @@ ghost use Rattle.std.specs.Prelude.{◌≡◌, ◌==◌, ◌<◌, ◌≤◌, ◌
 ghost use Rattle.schedule_forms.specs.SolvedForm.{is_low_row, is_high_row, is_pair, size_at, low_row_of, high_row_of, value_at, has_output, has_floor, has_beta, floor_at, is_constant, is_scattering, is_access, each_below, levels_from, betas_from, floors_from, values_from, schedule_of, access_of};
 ghost use Rattle.scop_data.specs.SolvedRows.{HasSizes, PairsFit, HasRelation, HasAccessRelation};
 
-use crate::row_roles::{are_paired, are_zero, column_of};
+use crate::row_roles::{are_paired, column_of};
 use crate::row_values::{
-    all_equalities, all_formed, find_high, find_low, floor_of, high_rows, low_rows, output_rows,
-    value_of,
+    all_equalities, all_formed, constant_at, find_high, find_low, floor_of, high_rows,
+    is_constant_at, low_rows, output_rows, value_of,
 };
 use relation_core::Part;
 use row_core::Coeff;
@@ -48,22 +48,14 @@ fn has_two_rows(part: &Part, k: usize) -> bool
     low_rows(part, k) == 1 && high_rows(part, k) == 1 && has_pair(part, k)
 }
 
-// Whether `value` is a constant.
-fn is_constant_value(value: &Affine) -> bool
-    ensures { result ≡ is_constant value.now }
-{
-    are_zero(value.iterators()) && are_zero(value.floors()) && are_zero(value.parameters())
-}
-
 // Whether the output at place `2 k` is a constant.
-fn has_constant(alloc: Global, part: &Part, k: usize) -> Result<bool, NoMemory>
+fn has_constant(part: &Part, k: usize) -> bool
     requires place { 2 * k < part.now.shape.outputs }
     requires given { has_output part.now (2 * k) ≡ true }
-    ensures { IfOk result (λ answer. answer ≡ has_beta part.now k) }
+    ensures { result ≡ has_beta part.now k }
 {
     let _limits = part.shape();
-    let value = value_of(alloc, part, 2 * k)?;
-    Ok(is_constant_value(&value))
+    is_constant_at(part, 2 * k)
 }
 
 // Whether each output has exactly one row.
@@ -92,30 +84,30 @@ fn has_floors(part: &Part) -> bool
 
 // Whether each of the first `n` outputs at even places is a constant.
 #[tactic(auto, using(crate::proofs::SolvedForms::each_more))]
-fn has_constants(alloc: Global, part: &Part, n: usize) -> Result<bool, NoMemory>
+fn has_constants(part: &Part, n: usize) -> bool
     requires places { 2 * n ≤ part.now.shape.outputs + 1 }
     requires given { each_below (has_output part.now) part.now.shape.outputs ≡ true }
-    ensures { IfOk result (λ answer. answer ≡ each_below (has_beta part.now) n) }
+    ensures { result ≡ each_below (has_beta part.now) n }
 {
     let mut good = true;
     for k in 0..n {
-        good = good && has_constant(alloc, part, k)?;
+        good = good && has_constant(part, k);
     }
-    Ok(good)
+    good
 }
 
 /// Whether `part` is a scattering in solved form.
-pub fn solves_schedule(alloc: Global, part: &Part) -> Result<bool, NoMemory>
-    ensures { IfOk result (λ answer. answer ≡ is_scattering part.now) }
+pub fn solves_schedule(part: &Part) -> bool
+    ensures { result ≡ is_scattering part.now }
 {
     let outputs = part.shape().outputs;
     if outputs % 2 != 1 {
-        return Ok(false);
+        return false;
     }
     if !all_formed(part) || !has_outputs(part) || !has_floors(part) {
-        return Ok(false);
+        return false;
     }
-    has_constants(alloc, part, outputs / 2 + 1)
+    has_constants(part, outputs / 2 + 1)
 }
 
 // Appends the value of the output at place `2 k + 1`.
@@ -147,15 +139,13 @@ fn levels_of(alloc: Global, part: &Part, n: usize) -> Result<List<Affine>, NoMem
 }
 
 // Appends the constant of the output at place `2 k`.
-fn push_beta(alloc: Global, part: &Part, k: usize, made: &mut List<Coeff>) -> Result<(), NoMemory>
+fn push_beta(part: &Part, k: usize, made: &mut List<Coeff>) -> Result<(), NoMemory>
     requires place { 2 * k < part.now.shape.outputs }
     requires given { has_output part.now (2 * k) ≡ true }
     ensures { OnOk result (made.new ≡ made.old ++ (value_at part.now (2 * k)).constant ∷ []) }
 {
     let _limits = part.shape();
-    let value = value_of(alloc, part, 2 * k)?;
-    made.push(value.constant())?;
-    Ok(())
+    made.push(constant_at(part, 2 * k))
 }
 
 // The constants of the outputs at places `2 k`, for `n` numbers from 0 on.
@@ -167,7 +157,7 @@ fn betas_of(alloc: Global, part: &Part, n: usize) -> Result<List<Coeff>, NoMemor
 {
     let mut made = List::with_capacity(alloc, n)?;
     for k in 0..n {
-        push_beta(alloc, part, k, &mut made)?;
+        push_beta(part, k, &mut made)?;
     }
     Ok(made)
 }
@@ -229,27 +219,26 @@ pub fn solved_schedule(alloc: Global, part: &Part) -> Result<Schedule, NoMemory>
 }
 
 // Whether the first output is a constant of at least 1.
-fn has_identifier(alloc: Global, part: &Part) -> Result<bool, NoMemory>
+fn has_identifier(part: &Part) -> bool
     requires some { 1 ≤ part.now.shape.outputs }
     requires given { each_below (has_output part.now) part.now.shape.outputs ≡ true }
-    ensures { IfOk result (λ answer. answer ≡ (is_constant (value_at part.now 0) && int_le (pos 1) (value_at part.now 0).constant)) }
+    ensures { result ≡ (is_constant (value_at part.now 0) && int_le (pos 1) (value_at part.now 0).constant) }
 {
-    let value = value_of(alloc, part, 0)?;
-    Ok(is_constant_value(&value) && 1 <= value.constant().value())
+    is_constant_at(part, 0) && 1 <= constant_at(part, 0).value()
 }
 
 /// Whether `part` is an access in solved form.
-pub fn solves_access(alloc: Global, part: &Part) -> Result<bool, NoMemory>
-    ensures { IfOk result (λ answer. answer ≡ is_access part.now) }
+pub fn solves_access(part: &Part) -> bool
+    ensures { result ≡ is_access part.now }
 {
     let shape = part.shape();
     if shape.locals != 0 || shape.outputs < 1 {
-        return Ok(false);
+        return false;
     }
     if !all_equalities(part) || !all_formed(part) || !has_outputs(part) {
-        return Ok(false);
+        return false;
     }
-    has_identifier(alloc, part)
+    has_identifier(part)
 }
 
 // Appends the value of the output at place `k + 1`.
@@ -294,7 +283,7 @@ fn access_with(alloc: Global, kind: AccessKind, part: &Part) -> Result<Access, N
     ensures printable { IfOk result (HasAccessRelation part.now.shape.inputs part.now.shape.parameters) }
 {
     let shape = part.shape();
-    let array = value_of(alloc, part, 0)?.constant();
+    let array = constant_at(part, 0);
     let subscripts = subscripts_of(alloc, part, shape.outputs - 1)?;
     Ok(Access {
         kind,

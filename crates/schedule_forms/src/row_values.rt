@@ -3,7 +3,7 @@
 ghost use Rattle.std.specs.Prelude.{◌≡◌, ◌==◌, ◌<◌, ◌≤◌, ◌+◌, ◌-◌, ◌*◌, ◌/◌, ◌%◌, pos, length, count_by, true, MatchOption, IfOk, neg_ℤ, unsigned_abs, ◌^◌};
 ghost use Rattle.row_core.specs.Rows.{entry};
 ghost use Rattle.relation_core.specs.Systems.{columns, width, row_at, HasLimits};
-ghost use Rattle.schedule_forms.specs.SolvedForm.{is_output_row, is_low_row, is_high_row, are_formed, are_equalities, output_row, low_row_of, high_row_of, value_at, floor_at, affine_of, cleared, has_floor, has_output, local_column};
+ghost use Rattle.schedule_forms.specs.SolvedForm.{is_output_row, is_low_row, is_high_row, are_formed, are_equalities, output_row, low_row_of, high_row_of, value_at, floor_at, affine_of, is_constant, cleared, has_floor, has_output, local_column};
 ghost use Rattle.scop_data.specs.SolvedRows.{HasSizes, PairFits};
 
 use crate::row_roles::{
@@ -175,6 +175,52 @@ pub fn value_of(alloc: Global, part: &Part, k: usize) -> Result<Affine, NoMemory
             }
             affine_from(alloc, part.shape(), row.entries.as_slice())
         }
+    }
+}
+
+/// The constant of the value of the output at place `k`, which one row gives.
+#[tactic(auto, using(crate::proofs::ReadBackLists::negative_entry))]
+pub fn constant_at(part: &Part, k: usize) -> Coeff
+    requires place { k < part.now.shape.outputs }
+    requires given { has_output part.now k ≡ true }
+    ensures { result ≡ (value_at part.now k).constant }
+{
+    match find_output(part, k) {
+        None => unreachable!(),
+        Some(row) => {
+            let constant = constant_of(part, row);
+            if 0 < row.entries.get(k).value() {
+                return constant.negated();
+            }
+            constant
+        }
+    }
+}
+
+// Whether the coefficients behind a row's outputs are zero, but for the constant.
+fn is_constant_row(shape: Shape, row: &[Coeff]) -> bool
+    requires limits { HasLimits shape }
+    requires wide { length row.now ≡ width shape }
+    ensures { result ≡ is_constant (affine_of shape row.now) }
+{
+    let locals = column_of(shape, 0);
+    let parameters = column_of(shape, shape.locals);
+    let last = parameters + shape.parameters;
+    are_zero(&row[shape.outputs..locals])
+        && are_zero(&row[locals..parameters])
+        && are_zero(&row[parameters..last])
+}
+
+/// Whether the value of the output at place `k`, which one row gives, is a constant.
+#[tactic(auto, using(crate::proofs::SolvedDots::negative_constant))]
+pub fn is_constant_at(part: &Part, k: usize) -> bool
+    requires place { k < part.now.shape.outputs }
+    requires given { has_output part.now k ≡ true }
+    ensures { result ≡ is_constant (value_at part.now k) }
+{
+    match find_output(part, k) {
+        None => unreachable!(),
+        Some(row) => is_constant_row(part.shape(), row.entries.as_slice()),
     }
 }
 

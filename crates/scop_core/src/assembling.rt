@@ -15,45 +15,42 @@ use std::alloc::Global;
 use suite_base::{List, NoMemory, Refusal, Text};
 
 // Whether the relation is one scattering in solved form.
-fn is_solved_scattering(alloc: Global, relation: &Relation) -> Result<bool, NoMemory>
-    ensures { IfOk result (λ answer. answer ≡ is_one is_scattering relation.now) }
+fn is_solved_scattering(relation: &Relation) -> bool
+    ensures { result ≡ is_one is_scattering relation.now }
 {
     match relation.parts() {
-        [part] => solves_schedule(alloc, part),
-        _ => Ok(false),
+        [part] => solves_schedule(part),
+        _ => false,
     }
 }
 
 // Whether the relation is one access in solved form.
-fn is_solved_access(alloc: Global, relation: &Relation) -> Result<bool, NoMemory>
-    ensures { IfOk result (λ answer. answer ≡ is_one is_access relation.now) }
+fn is_solved_access(relation: &Relation) -> bool
+    ensures { result ≡ is_one is_access relation.now }
 {
     match relation.parts() {
-        [part] => solves_access(alloc, part),
-        _ => Ok(false),
+        [part] => solves_access(part),
+        _ => false,
     }
 }
 
 // Whether every access is in solved form.
-fn are_solved_accesses(alloc: Global, accesses: &[(AccessKind, Relation)]) -> Result<bool, NoMemory>
-    ensures { IfOk result (λ answer. answer ≡ are_solved accesses.now) }
+fn are_solved_accesses(accesses: &[(AccessKind, Relation)]) -> bool
+    ensures { result ≡ are_solved accesses.now }
 {
     for access in accesses {
-        if !is_solved_access(alloc, &access.1)? {
-            return Ok(false);
+        if !is_solved_access(&access.1) {
+            return false;
         }
     }
-    Ok(true)
+    true
 }
 
 // Whether the scattering and the accesses of a statement are in solved form.
-fn is_solved_statement(alloc: Global, raw: &RawStatement) -> Result<bool, NoMemory>
-    ensures { IfOk result (λ answer. answer ≡ is_solved raw.now) }
+fn is_solved_statement(raw: &RawStatement) -> bool
+    ensures { result ≡ is_solved raw.now }
 {
-    if !is_solved_scattering(alloc, &raw.scattering)? {
-        return Ok(false);
-    }
-    are_solved_accesses(alloc, raw.accesses.as_slice())
+    is_solved_scattering(&raw.scattering) && are_solved_accesses(raw.accesses.as_slice())
 }
 
 // The number of iterators of a statement: the outputs of its domain.
@@ -261,14 +258,14 @@ pub fn statements_from(
 }
 
 /// The first statement that is not in solved form.
-pub fn unsolved_statement(alloc: Global, raws: &[RawStatement]) -> Result<Option<Refusal>, NoMemory>
+pub fn unsolved_statement(raws: &[RawStatement]) -> Option<Refusal>
     requires { length raws.now ≤ max_statements }
-    ensures { IfOk result (λ refusal. refusal ≡ first_unsolved 1 raws.now) }
+    ensures { result ≡ first_unsolved 1 raws.now }
 {
     for k in 0..raws.len() {
-        if !is_solved_statement(alloc, &raws[k])? {
-            return Ok(Some(Refusal::NotSolved(k as u32 + 1)));
+        if !is_solved_statement(&raws[k]) {
+            return Some(Refusal::NotSolved(k as u32 + 1));
         }
     }
-    Ok(None)
+    None
 }

@@ -49,20 +49,20 @@ impl Model for Scop {
 }
 
 // The first limit that the pieces pass, or else the first statement that is not solved.
-fn early_refusal(alloc: Global, pieces: &ScopPieces) -> Result<Option<Refusal>, NoMemory>
-    ensures answer { IfOk result (λ refusal. refusal ≡ early_refusal_of pieces.now) }
-    ensures few { IfOk result (λ refusal. refusal ≡ None → length pieces.now.statements ≤ max_statements) }
+fn early_refusal(pieces: &ScopPieces) -> Option<Refusal>
+    ensures answer { result ≡ early_refusal_of pieces.now }
+    ensures few { result ≡ None → length pieces.now.statements ≤ max_statements }
 {
     let raws = pieces.statements.as_slice();
     let limit = pieces_limit(pieces);
     if limit.is_some() {
-        return Ok(limit);
+        return limit;
     }
     let limit = statements_limit(raws);
     if limit.is_some() {
-        return Ok(limit);
+        return limit;
     }
-    unsolved_statement(alloc, raws)
+    unsolved_statement(raws)
 }
 
 // These statements in solved form, over the parameters of the context.
@@ -93,10 +93,8 @@ impl Scop {
         ensures cause { IfErr result (HasCause (refusal_of pieces)) }
     {
         pieces_are_held(&pieces);
-        match early_refusal(alloc, &pieces) {
-            Err(NoMemory) => return Err(Fail::Memory),
-            Ok(Some(refusal)) => return Err(Fail::Refused(refusal)),
-            Ok(None) => {}
+        if let Some(refusal) = early_refusal(&pieces) {
+            return Err(Fail::Refused(refusal));
         }
         let ScopPieces {
             language,

@@ -3,5 +3,5 @@ use Rattle.schedule_forms.specs.SolvedForm.{has_output}
 use Rattle.schedule_forms.proofs.SolvedShapes.{each_at}
 use Rattle.schedule_forms.proofs.part_solutions.access_with.Goals as goal
 
-pub value_of-requires-clause-given : goal.value_of-requires-clause-given
-value_of-requires-clause-given c = each_at (has_output c.args.part.now) c.args.part.now.shape.outputs 0 (omega arith) c.requires.given
+pub constant_at-array-requires-clause-given : goal.constant_at-array-requires-clause-given
+constant_at-array-requires-clause-given c = each_at (has_output c.args.part.now) c.args.part.now.shape.outputs 0 (omega arith) c.requires.given
