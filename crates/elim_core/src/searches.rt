@@ -76,12 +76,12 @@ fn origin(alloc: Global, width: usize) -> Result<Vec<Coeff>, NoMemory> {
     Ok(point)
 }
 
-/// The verdict that two opposed rows or the simplex method gives for `system`; `None` where neither
-/// finds anything, or where the check does not accept what was found.
+/// The verdict that two opposed rows, the repaired origin or the simplex method gives for `system`; `None`
+/// where none of them finds anything, or where the check does not accept what was found.
 pub fn search_checked(alloc: Global, system: &Part) -> Result<Option<Verdict>, NoMemory>
     ensures { IfOk result (λ found. IfSome found (λ verdict. IsRight system.now verdict)) }
 {
-    match accept_opposed(alloc, system)? {
+    match look(alloc, system)? {
         Some(verdict) => Ok(Some(verdict)),
         None => Ok(accepted(system, search(alloc, system)?)),
     }
@@ -95,9 +95,19 @@ pub fn search_from(
 ) -> Result<Option<Verdict>, NoMemory>
     ensures { IfOk result (λ found. IfSome found (λ verdict. IsRight system.now verdict)) }
 {
-    match accept_opposed(alloc, system)? {
+    match look(alloc, system)? {
         Some(verdict) => Ok(Some(verdict)),
         None => Ok(accepted(system, warm.search(alloc, system)?)),
+    }
+}
+
+// The verdict that two opposed rows or the repaired origin gives.
+fn look(alloc: Global, system: &Part) -> Result<Option<Verdict>, NoMemory>
+    ensures { IfOk result (λ found. IfSome found (λ verdict. IsRight system.now verdict)) }
+{
+    match accept_opposed(alloc, system)? {
+        Some(verdict) => Ok(Some(verdict)),
+        None => Search::new(alloc).search_nearby(alloc, system),
     }
 }
 
