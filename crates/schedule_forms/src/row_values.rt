@@ -1,6 +1,6 @@
 //! The rows of a part in solved form: how many give an output or a floor, and what they give.
 
-ghost use Rattle.std.specs.Prelude.{◌≡◌, ◌==◌, ◌<◌, ◌≤◌, ◌+◌, ◌-◌, ◌*◌, ◌/◌, ◌%◌, pos, length, count_by, true, MatchOption, IfOk, neg_ℤ, unsigned_abs, ◌^◌};
+ghost use Rattle.std.specs.Prelude.{◌≡◌, ◌==◌, ◌<◌, ◌≤◌, ◌+◌, ◌-◌, ◌*◌, ◌/◌, ◌%◌, pos, int_lt, length, count_by, true, MatchOption, IfOk, neg_ℤ, unsigned_abs, ◌^◌};
 ghost use Rattle.row_core.specs.Rows.{entry};
 ghost use Rattle.relation_core.specs.Systems.{columns, width, row_at, HasLimits};
 ghost use Rattle.schedule_forms.specs.SolvedForm.{is_output_row, is_low_row, is_high_row, are_formed, are_equalities, output_row, low_row_of, high_row_of, value_at, floor_at, affine_of, is_constant, cleared, has_floor, has_output, local_column};
@@ -159,6 +159,14 @@ fn affine_from(alloc: Global, shape: Shape, row: &[Coeff]) -> Result<Affine, NoM
     )
 }
 
+// Whether a row that gives the output at place `k` says the opposite of its value.
+fn gives_opposite(row: &PartRow, k: usize) -> bool
+    requires { k < length row.now.entries }
+    ensures { result ≡ int_lt (pos 0) (entry row.now.entries k) }
+{
+    0 < row.entries.get(k).value()
+}
+
 /// The value of the output at place `k`, which one row gives.
 pub fn value_of(alloc: Global, part: &Part, k: usize) -> Result<Affine, NoMemory>
     requires place { k < part.now.shape.outputs }
@@ -169,7 +177,7 @@ pub fn value_of(alloc: Global, part: &Part, k: usize) -> Result<Affine, NoMemory
     match find_output(part, k) {
         None => unreachable!(),
         Some(row) => {
-            if 0 < row.entries.get(k).value() {
+            if gives_opposite(row, k) {
                 let opposite = negated(alloc, &row.entries)?;
                 return affine_from(alloc, part.shape(), opposite.as_slice());
             }
@@ -189,7 +197,7 @@ pub fn constant_at(part: &Part, k: usize) -> Coeff
         None => unreachable!(),
         Some(row) => {
             let constant = constant_of(part, row);
-            if 0 < row.entries.get(k).value() {
+            if gives_opposite(row, k) {
                 return constant.negated();
             }
             constant
