@@ -3,12 +3,13 @@
 ghost use Rattle.std.specs.Prelude.{◌≡◌, ◌++◌, ◌∷◌, [], IfOk, List, ℕ, Some};
 ghost use Rattle.suite_base.specs.Words.{words};
 ghost use Rattle.scop_data.specs.LineWords.{are_same};
-ghost use Rattle.dependence_blocks.specs.Blocks.{entry_words, kind_word};
+ghost use Rattle.dependence_blocks.specs.Blocks.{entry_words};
 ghost use Rattle.dependence_audit.specs.Readings as spec;
 
 use crate::comparing::{header_is, row_is, words_are};
 use crate::content_lines::ContentLines;
-use dependence_systems::{Dep, DepKind};
+use dependence_blocks::kind_word;
+use dependence_systems::Dep;
 use farkas_cert::{Certificate, TooHeavy, check, read_cert};
 use itoa::Buffer;
 use relation_core::{Part, PartRow};
@@ -80,17 +81,6 @@ fn head_is(line: &[u8], entry: &Dep, verdict: &'static [u8]) -> bool
         verdict,
     ];
     words_are(line, &expected)
-}
-
-// The first word of an entry.
-fn kind_word(kind: DepKind) -> &'static [u8]
-    ensures { result.now ≡ kind_word kind }
-{
-    match kind {
-        DepKind::Raw => b"RAW",
-        DepKind::War => b"WAR",
-        DepKind::Waw => b"WAW",
-    }
 }
 
 // Reads the six numbers and the rows of a system.

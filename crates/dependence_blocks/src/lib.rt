@@ -5,4 +5,4 @@
 pub mod laws;
 mod printing;
 
-pub use printing::{block, entry_is_readable, print_count, print_entry};
+pub use printing::{block, entry_is_readable, kind_word, print_count, print_entry};

@@ -101,8 +101,8 @@ fn head(alloc: Global, entry: &Dep, verdict: &[u8]) -> Result<Text, NoMemory>
     Ok(line)
 }
 
-// The first word of an entry.
-fn kind_word(kind: DepKind) -> &'static [u8]
+/// The first word of an entry.
+pub fn kind_word(kind: DepKind) -> &'static [u8]
     ensures { result.now ≡ spec.kind_word kind }
 {
     match kind {
